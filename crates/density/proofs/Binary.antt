@@ -1,0 +1,106 @@
+-- Rows of zeros and ones.
+use mathlib.Core.Bool.{Bool, cond, false, true}
+use mathlib.Core.List.{List, [], _++_, _∷_}
+use mathlib.Core.Path.{refl, _≡_}
+use Prim.Native.Nat.{suc, zero, ℕ, _+_, _≤_}
+use native.Mathlib.Omega.{arith}
+use lib.Dec.{ltb}
+use lib.ListN.{getD, length, replicate}
+use borrow.Author.Tests.{ltb-true}
+use Rattle.density.specs.Density.{density}
+use Rattle.words.specs.Symbols.{firstWrong, later, sum}
+
+pub data Binary : List ℕ → Type 0 where
+  empty : Binary []
+  zero∷ : {w : List ℕ} → Binary w → Binary (0 ∷ w)
+  one∷ : {w : List ℕ} → Binary w → Binary (1 ∷ w)
+
+pub binary-cons : (x : ℕ) {w : List ℕ} → x ≤ 1 → Binary w → Binary (x ∷ w)
+binary-cons zero h b = zero∷ b
+binary-cons (suc zero) h b = one∷ b
+binary-cons (suc (suc x)) h b = absurd (omega arith)
+
+-- where a head is a call, a match on `Binary` is refused: this instead
+pub binary-uncons : {x : ℕ} {w : List ℕ} → Binary (x ∷ w) → (x ≤ 1) × Binary w
+binary-uncons (zero∷ b) = (omega arith, b)
+binary-uncons (one∷ b) = (omega arith, b)
+
+pub binary-append : {a b : List ℕ} → Binary a → Binary b → Binary (a ++ b)
+binary-append empty y = y
+binary-append (zero∷ x) y = zero∷ (binary-append x y)
+binary-append (one∷ x) y = one∷ (binary-append x y)
+
+pub binary-front : (a b : List ℕ) → Binary (a ++ b) → Binary a
+binary-front [] b x = empty
+binary-front (c ∷ a) b x = let q = binary-uncons x in binary-cons c (q .0) (binary-front a b (q .1))
+
+pub binary-behind : (a : List ℕ) {b : List ℕ} → Binary (a ++ b) → Binary b
+binary-behind [] x = x
+binary-behind (c ∷ a) x = binary-behind a (binary-uncons x .1)
+
+pub binary-snoc : {a : List ℕ} → Binary a → (b : ℕ) → b ≤ 1 → Binary (a ++ (b ∷ []))
+binary-snoc x b h = binary-append x (binary-cons b h empty)
+
+pub binary-at : {a : List ℕ} → Binary a → (i : ℕ) → getD a i 0 ≤ 1
+binary-at empty i = omega arith
+binary-at (zero∷ x) zero = omega arith
+binary-at (zero∷ x) (suc i) = binary-at x i
+binary-at (one∷ x) zero = omega arith
+binary-at (one∷ x) (suc i) = binary-at x i
+
+-- a row whose symbols are all at most 1
+pub at-binary : (a : List ℕ) → ((i : ℕ) → getD a i 0 ≤ 1) → Binary a
+at-binary [] h = empty
+at-binary (x ∷ a) h = binary-cons x (h 0) (at-binary a (λ i. h (suc i)))
+
+pub binary-replicate : (n x : ℕ) → x ≤ 1 → Binary (replicate n x)
+binary-replicate zero x h = empty
+binary-replicate (suc n) x h = binary-cons x h (binary-replicate n x h)
+
+-- ---- no wrong symbol
+
+-- a row without one is binary, and a binary row has none
+pub no-wrong : (w : List ℕ) → firstWrong 2 w ≡ 0 → Binary w
+unfolding firstWrong
+no-wrong [] e = empty
+no-wrong (x ∷ w) e = go (ltb x 2) refl (no-wrong w) e
+  where
+    none-later : (p : ℕ) → later p ≡ 0 → p ≡ 0
+    none-later zero e = refl
+    none-later (suc p) e = absurd (omega arith)
+
+    go : (b : Bool) → ltb x 2 ≡ b → (firstWrong 2 w ≡ 0 → Binary w) → cond b (later (firstWrong 2 w)) 1 ≡ 0 → Binary (x ∷ w)
+    go true t ih e = binary-cons x (omega (arith, ltb-true x 2 t)) (ih (none-later (firstWrong 2 w) e))
+    go false t ih e = absurd (omega arith)
+
+pub binary-no-wrong : {w : List ℕ} → Binary w → firstWrong 2 w ≡ 0
+unfolding firstWrong
+binary-no-wrong empty = refl
+binary-no-wrong (zero∷ b) = rw (binary-no-wrong b)
+binary-no-wrong (one∷ b) = rw (binary-no-wrong b)
+
+-- ---- the density is the sum
+
+pub density-sum : {w : List ℕ} → Binary w → density w ≡ sum w
+unfolding density sum
+density-sum empty = refl
+density-sum (zero∷ b) = omega (arith, density-sum b)
+density-sum (one∷ b) = omega (arith, density-sum b)
+
+pub sum-append : (a b : List ℕ) → sum (a ++ b) ≡ sum a + sum b
+unfolding sum
+sum-append [] b = omega arith
+sum-append (x ∷ a) b = omega (arith, sum-append a b)
+
+pub density-append : (a b : List ℕ) → density (a ++ b) ≡ density a + density b
+unfolding density
+density-append [] b = omega arith
+density-append (zero ∷ a) b = density-append a b
+density-append (suc zero ∷ a) b = omega (arith, density-append a b)
+density-append (suc (suc x) ∷ a) b = density-append a b
+
+pub binary-sum : {a : List ℕ} → Binary a → sum a ≤ length a
+unfolding sum
+binary-sum empty = omega arith
+binary-sum (zero∷ x) = omega (arith, binary-sum x)
+binary-sum (one∷ x) = omega (arith, binary-sum x)

@@ -1,0 +1,3 @@
+-- Binary rows.
+pub mod Density
+pub mod Necklaces

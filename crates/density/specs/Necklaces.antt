@@ -1,0 +1,42 @@
+-- The necklaces of (n, d) by enumeration: the drawer, its kinds, its top ring, and what begins one of its rings.
+use mathlib.Core.Bool.{Bool, true, false, _&&_}
+use mathlib.Core.List.{List, [], headD}
+use Prim.Native.Nat.{ℕ, zero, suc}
+use lib.Dec.{eqb}
+use Rattle.words.specs.Tests.{keep, any, isPrefix}
+use Rattle.words.specs.Rotation.{isNecklace, isLyndon}
+use Rattle.density.specs.Density.{density, allRows}
+
+-- a necklace of density d
+unfoldable pub isNecklaceOf : ℕ → List ℕ → Bool
+isNecklaceOf d w = eqb (density w) d && isNecklace w
+
+-- "Drawer (n, d)": the shelved rows of n symbols with d holes, falling. Also its kind 1.
+unfoldable pub necklaces : ℕ → ℕ → List (List ℕ)
+necklaces n d = keep (isNecklaceOf d) (allRows n)
+
+-- Which kinds there are.
+unfoldable pub isKind : ℕ → Bool
+isKind zero = false
+isKind (suc zero) = true
+isKind (suc (suc zero)) = true
+isKind (suc (suc (suc k))) = false
+
+-- "Kind 1 is all of them, kind 2 those without symmetry": a test of a shelved row.
+unfoldable pub ofKind : ℕ → List ℕ → Bool
+ofKind zero w = false
+ofKind (suc zero) w = true
+ofKind (suc (suc zero)) w = isLyndon w
+ofKind (suc (suc (suc k))) w = false
+
+-- the rings of the drawer that are of a kind, falling
+unfoldable pub necklacesOfKind : ℕ → ℕ → ℕ → List (List ℕ)
+necklacesOfKind kind n d = keep (ofKind kind) (necklaces n d)
+
+-- "Top ring": the highest of the drawer.
+unfoldable pub largestNecklace : ℕ → ℕ → List ℕ
+largestNecklace n d = headD (necklaces n d) []
+
+-- "Prefix question": does some kind 1 ring of the drawer begin so?
+unfoldable pub begins : ℕ → ℕ → List ℕ → Bool
+begins n d p = any (isPrefix p) (necklaces n d)

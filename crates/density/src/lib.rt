@@ -1,0 +1,1 @@
+// Binary rows: their density, and the necklaces of length n and density d. Definitions and laws.

@@ -1,0 +1,1 @@
+// Gap lists: a row as the numbers of plain stations before its holes. Definitions.

@@ -1,0 +1,36 @@
+-- "Refused for the input" and "Refused for the state": each refusal's number and place.
+use Prim.Native.Nat.{ℕ}
+use Rattle.refusal.specs.declared.Refusal.{Refusal}
+use Rattle.refusal.specs.declared.Refusal.the-variants.{Stations, Holes, Symbol, Limit, Kind, Prefix, GapSum, LastGap, Buffer, Text, Ended, Spent, Unfit}
+
+-- the number of document 01
+abbrev pub numberOf : Refusal → ℕ
+numberOf Stations = 1
+numberOf Holes = 2
+numberOf (Symbol p) = 3
+numberOf Limit = 4
+numberOf Kind = 5
+numberOf Prefix = 6
+numberOf GapSum = 7
+numberOf LastGap = 8
+numberOf Buffer = 9
+numberOf (Text line) = 10
+numberOf Ended = 20
+numberOf Spent = 21
+numberOf Unfit = 22
+
+-- its place: "0 unless named"
+abbrev pub placeOf : Refusal → ℕ
+placeOf Stations = 0
+placeOf Holes = 0
+placeOf (Symbol p) = p
+placeOf Limit = 0
+placeOf Kind = 0
+placeOf Prefix = 0
+placeOf GapSum = 0
+placeOf LastGap = 0
+placeOf Buffer = 0
+placeOf (Text line) = line
+placeOf Ended = 0
+placeOf Spent = 0
+placeOf Unfit = 0

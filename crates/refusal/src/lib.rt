@@ -1,0 +1,85 @@
+// The refusals of document 01, each with its number and place.
+ghost use mathlib.Core.Path.{_≡_};
+ghost use Rattle.refusal.specs.Refusals.{numberOf, placeOf};
+ghost use Rattle.refusal.specs.Verdicts.{areStations};
+
+// The most stations of a row.
+pub const MOST_STATIONS: usize = 64;
+
+pub enum Refusal {
+    // stations not 1 to 64
+    Stations,
+    // holes, or the length of a gap list, above the stations
+    Holes,
+    // a byte other than 0 or 1, with the place of the first
+    Symbol(usize),
+    // limit length differs from the stations
+    Limit,
+    // kind not 1 or 2
+    Kind,
+    // prefix longer than the stations
+    Prefix,
+    // a non-empty gap list whose sum plus its length isn't the stations
+    GapSum,
+    // a row with holes that ends in 0, asked for its gap list
+    LastGap,
+    // output buffer too short
+    Buffer,
+    // program text not as described, with the line
+    Text(usize),
+    // the walk has ended
+    Ended,
+    // allowance spent
+    Spent,
+    // unfit walk record
+    Unfit,
+}
+
+// Whether a row may have n stations.
+pub fn are_stations(n: usize) -> bool
+    ensures { λ r. ⌜ r ≡ areStations n ⌝ }
+{
+    if 1 <= n { n <= MOST_STATIONS } else { false }
+}
+
+// The refusal's number.
+pub fn number(r: Refusal) -> u8
+    ensures { λ n. ⌜ n ≡ numberOf r ⌝ }
+{
+    match r {
+        Refusal::Stations => 1,
+        Refusal::Holes => 2,
+        Refusal::Symbol(_) => 3,
+        Refusal::Limit => 4,
+        Refusal::Kind => 5,
+        Refusal::Prefix => 6,
+        Refusal::GapSum => 7,
+        Refusal::LastGap => 8,
+        Refusal::Buffer => 9,
+        Refusal::Text(_) => 10,
+        Refusal::Ended => 20,
+        Refusal::Spent => 21,
+        Refusal::Unfit => 22,
+    }
+}
+
+// The refusal's place, 0 unless it names one.
+pub fn place(r: Refusal) -> usize
+    ensures { λ p. ⌜ p ≡ placeOf r ⌝ }
+{
+    match r {
+        Refusal::Stations => 0,
+        Refusal::Holes => 0,
+        Refusal::Symbol(p) => p,
+        Refusal::Limit => 0,
+        Refusal::Kind => 0,
+        Refusal::Prefix => 0,
+        Refusal::GapSum => 0,
+        Refusal::LastGap => 0,
+        Refusal::Buffer => 0,
+        Refusal::Text(line) => line,
+        Refusal::Ended => 0,
+        Refusal::Spent => 0,
+        Refusal::Unfit => 0,
+    }
+}

@@ -1,0 +1,42 @@
+-- The starred specimens of document 01, and what each says of the definitions.
+use mathlib.Core.Path.{_≡_}
+use mathlib.Core.Bool.{Bool, true, false}
+use mathlib.Core.List.{List, [], _∷_}
+use Prim.Native.Nat.{ℕ}
+use Rattle.words.specs.Rotation.{leastRotation, leastIndex, period}
+use Rattle.density.specs.Necklaces.{begins, largestNecklace}
+use Rattle.gaps.specs.Gaps.{gapsOfRow}
+
+pub data Specimen : Type 0 where
+  -- key of a row: the key, its turn and the period
+  key : List ℕ → List ℕ → ℕ → ℕ → Specimen
+  -- drawer (n, d): a prefix, yes or no
+  prefix : ℕ → ℕ → List ℕ → Bool → Specimen
+  -- top(n, d) is a row
+  top : ℕ → ℕ → List ℕ → Specimen
+  -- gaps of a row
+  gaps : List ℕ → List ℕ → Specimen
+
+-- what a specimen says
+abbrev pub Says : Specimen → Type 0
+Says (key w least turn p) = (leastRotation w ≡ least) × (leastIndex w ≡ turn) × (period w ≡ p)
+Says (prefix n d p answer) = begins n d p ≡ answer
+Says (top n d w) = largestNecklace n d ≡ w
+Says (gaps w list) = gapsOfRow w ≡ list
+
+-- what all of a list say
+abbrev pub Say : List Specimen → Type 0
+Say [] = Unit
+Say (s ∷ rest) = Says s × Say rest
+
+unfoldable pub starred : List Specimen
+starred =
+    key (0 ∷ 1 ∷ 1 ∷ 0 ∷ 0 ∷ 0 ∷ []) (0 ∷ 0 ∷ 0 ∷ 0 ∷ 1 ∷ 1 ∷ []) 3 6
+    ∷ key (1 ∷ 0 ∷ 1 ∷ 0 ∷ 1 ∷ 0 ∷ []) (0 ∷ 1 ∷ 0 ∷ 1 ∷ 0 ∷ 1 ∷ []) 1 2
+    ∷ prefix 8 3 (0 ∷ 0 ∷ 1 ∷ 0 ∷ []) true
+    ∷ prefix 8 3 (0 ∷ 1 ∷ 0 ∷ []) false
+    ∷ prefix 4 3 (0 ∷ []) true
+    ∷ top 8 3 (0 ∷ 0 ∷ 1 ∷ 0 ∷ 0 ∷ 1 ∷ 0 ∷ 1 ∷ [])
+    ∷ top 8 5 (0 ∷ 1 ∷ 0 ∷ 1 ∷ 1 ∷ 0 ∷ 1 ∷ 1 ∷ [])
+    ∷ gaps (0 ∷ 0 ∷ 1 ∷ 0 ∷ 0 ∷ 1 ∷ 0 ∷ 1 ∷ []) (2 ∷ 2 ∷ 1 ∷ [])
+    ∷ []

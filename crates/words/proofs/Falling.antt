@@ -1,0 +1,111 @@
+-- Lists of rows that fall strictly, and the first of a filtered one.
+
+-- each row is above all that follow it
+use mathlib.Core.Bool.{Bool, cond, false, true}
+use mathlib.Core.List.{List, List·Memᴰ, List·Memᴰ·append-cases, List·Memᴰ·cases-cons, List·Memᴰ·head, List·Memᴰ·tail, Memᴰ·append-right, Memᴰ·of-map, [], headD, map, _++_, _∷_}
+use mathlib.Core.Logic.{inl, inr, _⊎_}
+use mathlib.Core.Path.{refl, subst, sym, _≡_}
+use Prim.Native.Nat.{ℕ}
+use Rattle.words.proofs.AtMost.{equal, lower, ≼-antisym, _≼_}
+use Rattle.words.proofs.Below.{there, ≺-asym, ≺-irrefl, _≺_}
+use Rattle.words.proofs.Lists.{keep→, →keep}
+use Rattle.words.specs.Tests.{keep}
+
+pub data Falling : List (List ℕ) → Type 0 where
+  falls-none : Falling []
+  falls-from : {w : List ℕ} {l : List (List ℕ)} → ((v : List ℕ) → List·Memᴰ v l → v ≺ w) → Falling l → Falling (w ∷ l)
+
+pub falling-map : (x : ℕ) {l : List (List ℕ)} → Falling l → Falling (map (λ w. x ∷ w) l)
+falling-map x falls-none = falls-none
+falling-map x (falls-from {w = w} {l = l} h f) = falls-from below-head (falling-map x f)
+  where
+    below-head : (v : List ℕ) → List·Memᴰ v (map (λ w. x ∷ w) l) → v ≺ (x ∷ w)
+    below-head v m = let q = Memᴰ·of-map (λ w. x ∷ w) l m in rw (← q .2) (there (h (q .0) (q .1)))
+
+pub falling-append : {a b : List (List ℕ)} → Falling a → Falling b → ((u v : List ℕ) → List·Memᴰ u a → List·Memᴰ v b → v ≺ u) → Falling (a ++ b)
+falling-append falls-none g h = g
+falling-append {b = b} (falls-from {w = w} {l = l} k f) g h = falls-from below-head (falling-append f g (λ u v m n. h u v (List·Memᴰ·tail m) n))
+  where
+    pick : (v : List ℕ) → List·Memᴰ v l ⊎ List·Memᴰ v b → v ≺ w
+    pick v (inl m) = k v m
+    pick v (inr m) = h w v (List·Memᴰ·head refl) m
+
+    below-head : (v : List ℕ) → List·Memᴰ v (l ++ b) → v ≺ w
+    below-head v m = pick v (List·Memᴰ·append-cases l m)
+
+pub keep-falling : (p : List ℕ → Bool) {l : List (List ℕ)} → Falling l → Falling (keep p l)
+unfolding keep
+keep-falling p falls-none = falls-none
+keep-falling p (falls-from {w = w} {l = l} h f) = go (p w) (keep-falling p f)
+  where
+    go : (b : Bool) → Falling (keep p l) → Falling (cond b (w ∷ keep p l) (keep p l))
+    go true g = falls-from (λ v m. h v (keep→ p v l m .0)) g
+    go false g = g
+
+-- ---- the first is the highest
+
+pub head-highest : {w : List ℕ} {l : List (List ℕ)} → Falling l → List·Memᴰ w l → w ≼ headD l []
+unfolding headD
+head-highest (falls-from h f) (List·Memᴰ·head e) = equal e
+head-highest {w} (falls-from h f) (List·Memᴰ·tail m) = lower (h w m)
+
+pub head-member : {w : List ℕ} {l : List (List ℕ)} → List·Memᴰ w l → List·Memᴰ (headD l []) l
+unfolding headD
+head-member (List·Memᴰ·head e) = List·Memᴰ·head refl
+head-member (List·Memᴰ·tail m) = List·Memᴰ·head refl
+
+-- of a filtered falling list: the first passes, and is the highest that does
+pub record Highest (p : List ℕ → Bool) (l : List (List ℕ)) (r : List ℕ) : Type 0 where
+  pub member : List·Memᴰ r l
+  pub passes : p r ≡ true
+  pub most : (w : List ℕ) → List·Memᴰ w l → p w ≡ true → w ≼ r
+
+pub first-highest : (p : List ℕ → Bool) {l : List (List ℕ)} → Falling l → (r : List ℕ) (rest : List (List ℕ)) → keep p l ≡ r ∷ rest → Highest p l r
+unfolding headD
+first-highest p {l} f r rest e =
+    let m : List·Memᴰ r (keep p l) = rw e (List·Memᴰ·head refl) in
+    let k = keep→ p r l m in
+    record {
+      member = k .0;
+      passes = k .1;
+      most = λ w n q. subst (λ v. w ≼ headD v []) e (head-highest (keep-falling p f) (→keep p w l n q));
+    }
+
+-- what is highest among those that pass comes first
+pub highest-first : (p : List ℕ → Bool) {l : List (List ℕ)} → Falling l → (r : List ℕ) → Highest p l r → headD (keep p l) [] ≡ r
+highest-first p {l} f r h =
+    let m = →keep p r l (h .member) (h .passes) in
+    let k = keep→ p (headD (keep p l) []) l (head-member m) in
+    ≼-antisym (h .most (headD (keep p l) []) (k .0) (k .1)) (head-highest (keep-falling p f) m)
+
+-- where nothing passes, nothing is kept
+pub keep-none : (p : List ℕ → Bool) (l : List (List ℕ)) → ((w : List ℕ) → List·Memᴰ w l → p w ≡ true → ⊥) → keep p l ≡ []
+unfolding keep
+keep-none p [] h = refl
+keep-none p (x ∷ l) h = go (p x) refl (keep-none p l (λ w m. h w (List·Memᴰ·tail m)))
+  where
+    go : (b : Bool) → p x ≡ b → keep p l ≡ [] → cond b (x ∷ keep p l) (keep p l) ≡ []
+    go true e r = absurd (h x (List·Memᴰ·head refl) e)
+    go false e r = r
+
+-- ---- neighbours: a ≺ b, and nothing between
+
+pub falls-by : (l : List (List ℕ)) (b a : List ℕ) (r : List (List ℕ)) → Falling (l ++ (b ∷ a ∷ r)) → a ≺ b
+falls-by [] b a r (falls-from h f) = h a (List·Memᴰ·head refl)
+falls-by (x ∷ l) b a r (falls-from h f) = falls-by l b a r f
+
+pub nothing-between : (l : List (List ℕ)) (b a : List ℕ) (r : List (List ℕ)) → Falling (l ++ (b ∷ a ∷ r)) → (w : List ℕ) → List·Memᴰ w (l ++ (b ∷ a ∷ r)) → a ≺ w → b ≼ w
+nothing-between [] b a r (falls-from h (falls-from k f)) w m q = first (List·Memᴰ·cases-cons m)
+  where
+    second : (w ≡ a) ⊎ List·Memᴰ w r → b ≼ w
+    second (inl e) = absurd (≺-irrefl (rw e at q))
+    second (inr n) = absurd (≺-asym q (k w n))
+
+    first : (w ≡ b) ⊎ List·Memᴰ w (a ∷ r) → b ≼ w
+    first (inl e) = equal (sym e)
+    first (inr n) = second (List·Memᴰ·cases-cons n)
+nothing-between (x ∷ l) b a r (falls-from h f) w m q = go (nothing-between l b a r f w) (List·Memᴰ·cases-cons m)
+  where
+    go : (List·Memᴰ w (l ++ (b ∷ a ∷ r)) → a ≺ w → b ≼ w) → (w ≡ x) ⊎ List·Memᴰ w (l ++ (b ∷ a ∷ r)) → b ≼ w
+    go ih (inl e) = rw e (lower (h b (Memᴰ·append-right l (List·Memᴰ·head refl))))
+    go ih (inr n) = ih n q

@@ -1,0 +1,19 @@
+-- the order: as a family to match on, the first difference, at or below, and the tests
+pub mod Below
+pub mod FirstDifference
+pub mod AtMost
+pub mod OrderTests
+-- tests over numbers and lists, falling lists
+pub mod Bounded
+pub mod Lists
+pub mod Falling
+-- parts of rows, Lyndon words, powers, necklaces
+pub mod Induction
+pub mod Cut
+pub mod Lyndon
+pub mod Power
+pub mod PowerOrder
+pub mod Rotations
+pub mod Root
+-- wrong symbols
+pub mod Wrong

@@ -1,0 +1,5 @@
+-- Rows as lists of numbers, over any alphabet.
+pub mod Order
+pub mod Tests
+pub mod Rotation
+pub mod Symbols

@@ -1,0 +1,20 @@
+-- The symbols of a row: their sum, and the first that is none of an alphabet.
+use mathlib.Core.Bool.{Bool, true, false, cond}
+use mathlib.Core.List.{List, [], _∷_}
+use Prim.Native.Nat.{ℕ, zero, suc, _+_}
+use lib.Dec.{ltb}
+
+unfoldable pub sum : List ℕ → ℕ
+sum [] = 0
+sum (x ∷ xs) = x + sum xs
+
+-- the place of a later symbol, counted from one place further in front; 0 stays "none"
+abbrev pub later : ℕ → ℕ
+later zero = zero
+later (suc p) = suc (suc p)
+
+-- "A byte other than 0 or 1; place of the first", for an alphabet of k symbols: the place, from 1, of the first symbol
+-- that is not below k, and 0 where there is none.
+unfoldable pub firstWrong : ℕ → List ℕ → ℕ
+firstWrong k [] = 0
+firstWrong k (x ∷ xs) = let rest = later (firstWrong k xs) in cond (ltb x k) rest 1
