@@ -2,3 +2,9 @@
 pub mod Binary
 pub mod Enumeration
 pub mod Members
+-- the largest necklace of (n, d): prefix sums, the balanced row, the lowest rotation of a row
+pub mod Sums
+pub mod BalancedRow
+pub mod LowRotation
+pub mod Largest
+pub mod Scaled
