@@ -11,7 +11,7 @@ use lib.Arith.{le-zero}
 use lib.ListN.{drop, length, length-drop, take, take-append-drop}
 use lib.Seq.{take-add, take-append-add, take-append-le, take-take}
 use Rattle.density.proofs.BalancedRow.{balanced-length, prefix-sum}
-use Rattle.density.proofs.Binary.{sum-append}
+use Rattle.density.proofs.Counts.{sum-append}
 use Rattle.density.proofs.Sums.{by-sums}
 use Rattle.density.specs.Balanced.{balanced}
 use Rattle.words.proofs.AtMost.{_≼_}

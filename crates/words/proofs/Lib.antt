@@ -15,5 +15,7 @@ pub mod Power
 pub mod PowerOrder
 pub mod Rotations
 pub mod Root
--- wrong symbols
+-- for loops: wrong symbols, writing the front of a buffer
+pub mod Zeros
 pub mod Wrong
+pub mod Front
