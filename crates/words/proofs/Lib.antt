@@ -15,6 +15,13 @@ pub mod Power
 pub mod PowerOrder
 pub mod Rotations
 pub mod Root
+-- rows that begin a necklace: their period, one pass over them, what may follow a Lyndon word
+pub mod Prefixes
+pub mod ScanMeaning
+pub mod Repetition
+pub mod OnePeriod
+pub mod Following
+pub mod ScanSteps
 -- for loops: wrong symbols, writing the front of a buffer
 pub mod Zeros
 pub mod Wrong
