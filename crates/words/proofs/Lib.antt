@@ -4,6 +4,7 @@ pub mod FirstDifference
 pub mod AtMost
 pub mod OrderTests
 -- tests over numbers and lists, falling lists
+pub mod Booleans
 pub mod Bounded
 pub mod Lists
 pub mod Falling
