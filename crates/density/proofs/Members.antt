@@ -44,6 +44,13 @@ pub →isNecklaceOf : (d : ℕ) (w : List ℕ) → density w ≡ d → Necklace 
 unfolding isNecklaceOf
 →isNecklaceOf d w c s = and-eq-true-iff (eqb (density w) d) (isNecklace w) .1 (eq-eqb _ _ c, →isNecklace w s)
 
+-- the test, for a row of zeros and ones
+pub member-test : {n d : ℕ} {w : List ℕ} → Member n d w → isNecklaceOf d w ≡ true
+member-test {d = d} {w = w} m = →isNecklaceOf d w (m .count) (m .least)
+
+pub test-member : {n d : ℕ} {w : List ℕ} → length w ≡ n → Binary w → isNecklaceOf d w ≡ true → Member n d w
+test-member {d = d} {w = w} l b e = let h = isNecklaceOf→ d w e in record { long = l; binary = b; count = h .0; least = h .1 }
+
 pub member→ : (n d : ℕ) (w : List ℕ) → List·Memᴰ w (necklaces n d) → Member n d w
 unfolding necklaces
 member→ n d w m =

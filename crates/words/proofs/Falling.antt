@@ -4,11 +4,15 @@
 use mathlib.Core.Bool.{Bool, cond, false, true}
 use mathlib.Core.List.{List, List·Memᴰ, List·Memᴰ·append-cases, List·Memᴰ·cases-cons, List·Memᴰ·head, List·Memᴰ·tail, Memᴰ·append-right, Memᴰ·of-map, [], headD, map, _++_, _∷_}
 use mathlib.Core.Logic.{inl, inr, _⊎_}
-use mathlib.Core.Path.{refl, subst, sym, _≡_}
-use Prim.Native.Nat.{ℕ}
-use Rattle.words.proofs.AtMost.{equal, lower, ≼-antisym, _≼_}
+use mathlib.Core.Path.{ap, refl, subst, sym, _∙_, _≡_}
+use Prim.Native.Nat.{suc, ℕ, _≤_}
+use native.Mathlib.Omega.{arith}
+use lib.ListN.{length}
+use Rattle.words.proofs.AtMost.{equal, lower, ≼-antisym, ≼-refl, _≼_}
 use Rattle.words.proofs.Below.{there, ≺-asym, ≺-irrefl, _≺_}
-use Rattle.words.proofs.Lists.{keep→, →keep}
+use Rattle.words.proofs.Lists.{keep-same, keep→, →keep}
+use Rattle.words.proofs.OrderTests.{not-le, not-lt, →le, →lt}
+use Rattle.words.specs.Order.{le, lt}
 use Rattle.words.specs.Tests.{keep}
 
 pub data Falling : List (List ℕ) → Type 0 where
@@ -109,3 +113,29 @@ nothing-between (x ∷ l) b a r (falls-from h f) w m q = go (nothing-between l b
     go : (List·Memᴰ w (l ++ (b ∷ a ∷ r)) → a ≺ w → b ≼ w) → (w ≡ x) ⊎ List·Memᴰ w (l ++ (b ∷ a ∷ r)) → b ≼ w
     go ih (inl e) = rw e (lower (h b (Memᴰ·append-right l (List·Memᴰ·head refl))))
     go ih (inr n) = ih n q
+
+-- ---- at or below a member: the member, and what is below it
+
+pub falls-below : {w : List ℕ} {l : List (List ℕ)} → Falling (w ∷ l) → (v : List ℕ) → List·Memᴰ v l → v ≺ w
+falls-below (falls-from h f) v m = h v m
+
+pub at-or-below : (x : List ℕ) {l : List (List ℕ)} → Falling l → List·Memᴰ x l → keep (λ r. le r x) l ≡ x ∷ keep (λ r. lt r x) l
+unfolding keep
+at-or-below x (falls-from {w = w} {l = l} h f) (List·Memᴰ·head e) =
+    rw (← e, →le x x (≼-refl x), not-lt x x (≼-refl x)) (ap {B = List (List ℕ)} (λ t. x ∷ t) (keep-same (λ r. le r x) (λ r. lt r x) l both))
+  where
+    both : (r : List ℕ) → List·Memᴰ r l → le r x ≡ lt r x
+    both r m = let b : r ≺ x = rw e (h r m) in →le r x (lower b) ∙ sym (→lt r x b)
+at-or-below x (falls-from {w = w} {l = l} h f) (List·Memᴰ·tail m) =
+    let b = h x m in
+    rw (not-le w x b, not-lt w x (lower b)) (at-or-below x f m)
+
+-- a filter keeps no more than there is
+pub keep-fewer : (p : List ℕ → Bool) (l : List (List ℕ)) → length (keep p l) ≤ length l
+unfolding keep
+keep-fewer p [] = omega arith
+keep-fewer p (x ∷ l) = go (p x) (keep-fewer p l)
+  where
+    go : (b : Bool) → length (keep p l) ≤ length l → length (cond b (x ∷ keep p l) (keep p l)) ≤ suc (length l)
+    go true h = omega arith
+    go false h = omega arith

@@ -3,6 +3,7 @@ pub mod Below
 pub mod FirstDifference
 pub mod AtMost
 pub mod OrderTests
+pub mod Beside
 -- tests over numbers and lists, falling lists
 pub mod Booleans
 pub mod Bounded

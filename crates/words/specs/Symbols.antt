@@ -5,9 +5,12 @@ use Prim.Native.Nat.{ℕ, zero, suc, _+_}
 use lib.ListN.{replicate}
 use lib.Dec.{ltb}
 
--- n zeros
+-- n zeros, n ones
 abbrev pub zeros : ℕ → List ℕ
 zeros n = replicate n 0
+
+abbrev pub ones : ℕ → List ℕ
+ones n = replicate n 1
 
 unfoldable pub sum : List ℕ → ℕ
 sum [] = 0

@@ -1,0 +1,147 @@
+-- One step of a fit walk is the book's step on what it stands for.
+-- ---- something is to come, unless the walk has ended
+use mathlib.Core.Bool.{Bool, and-eq-true-iff, false, true, _&&_}
+use mathlib.Core.List.{List, List·Memᴰ·not-nil, [], _++_, _∷_}
+use mathlib.Core.Logic.{inl, inr, _⊎_}
+use mathlib.Core.Path.{ap, refl, _∙_, _≡_}
+use Prim.Native.Nat.{suc, zero, ℕ, _+_, _-_, _<_}
+use native.Mathlib.Nat.{zero-add}
+use native.Mathlib.Omega.{arith}
+use lib.Dec.{leb}
+use lib.ListN.{length, length-append, take}
+use lib.Seq.{length-take-le}
+use borrow.Author.Tests.{le-ltb, leb-true, lt-ltb}
+use Rattle.density.proofs.Binary.{binary-behind}
+use Rattle.density.proofs.Members.{Begun, Member, begins→, →member}
+use Rattle.density.specs.Necklaces.{begins, isNecklaceOf, necklaces, ofKind}
+use Rattle.walk.proofs.Enough.{enough-some, moves-enough}
+use Rattle.walk.proofs.Good.{Fit, Good, GoodAt, Sound, fit-at, fit-sound}
+use Rattle.walk.proofs.Keeping.{keeping}
+use Rattle.walk.proofs.Rounds.{necklacesUpTo, under-ones}
+use Rattle.walk.proofs.Runs.{Ran, given, run-as-listed, spent}
+use Rattle.walk.proofs.Stands.{firstAt, linesAt, rowsAt, size, stands}
+use Rattle.walk.proofs.Strikes.{Coming, lines-coming, ring-coming}
+use Rattle.walk.specs.Fit.{fitAt}
+use Rattle.walk.specs.Listing.{Listing, Said, allLines, entry, limitFirst, linesFrom, listingStep, necklacesBelow, over, strike, told}
+use Rattle.walk.specs.Moves.{Rules, answer, moveAt, rowOf}
+use Rattle.walk.specs.Step.{enough, run, saidAs, stepOf, stepped}
+use Rattle.walk.specs.declared.Answer.the-variants.{Refused}
+use Rattle.walk.specs.declared.Standing.{Standing}
+use Rattle.walk.specs.declared.Standing.the-variants.{Down, Ended, Given, Limit, Up}
+use Rattle.walk.specs.declared.Stepped.{Stepped}
+use Rattle.walk.specs.declared.Walk.{Walk}
+use Rattle.words.proofs.Beside.{le-starts}
+use Rattle.words.proofs.Lists.{→keep}
+use Rattle.words.specs.Order.{le}
+use Rattle.words.specs.Symbols.{ones}
+use Rattle.refusal.specs.declared.Refusal.the-variants.{Ended as HasEnded}
+
+up-some : (n d : ℕ) (u : List ℕ) (k : ℕ) → length u + k ≡ n → begins n d u ≡ true → necklacesUpTo n d (u ++ ones k) ≡ [] → ⊥
+unfolding necklacesUpTo
+up-some n d u k l e nil = List·Memᴰ·not-nil (rw nil at (→keep (λ r. le r (u ++ ones k)) (u ++ s .rest) (necklaces n d) (→member (s .member)) low))
+  where
+    s : Begun n d u
+    s = begins→ n d u e
+
+    i : Member n d (u ++ s .rest)
+    i = s .member
+
+    low : le (u ++ s .rest) (u ++ ones k) ≡ true
+    low = le-starts u (s .rest) (ones k) ∙ under-ones k (binary-behind u (i .binary)) (omega (arith, i .long, length-append u (s .rest)))
+
+first-coming : (test : List ℕ → Bool) (k : ℕ) (l : List (List ℕ)) → (l ≡ [] → ⊥) → Coming (strike test (firstAt k l))
+first-coming test k [] h = absurd (h refl)
+first-coming test k (r ∷ rs) h = ring-coming test r k (linesFrom true r rs) (lines-coming test true r rs)
+
+pub coming : (R : Rules) (w : Walk) → Good R w → Coming (stands R w)
+unfolding stands linesAt allLines rowsAt
+coming R w g = go (w .at) (g .placed)
+  where
+    test : List ℕ → Bool
+    test = R .ofKind (w .kind)
+
+    s : Sound R (w .n) (w .d) (w .kind) (w .row)
+    s = g .sound
+
+    limit : (b : Bool) → Coming (strike test (limitFirst b (rowOf w) (necklacesBelow (w .n) (w .d) (rowOf w))))
+    limit true = ring-coming test (rowOf w) 0 (linesFrom true (rowOf w) (necklacesBelow (w .n) (w .d) (rowOf w))) (lines-coming test true _ _)
+    limit false = lines-coming test false _ _
+
+    go : (s : Standing) → GoodAt s (w .n) (w .d) (w .row) → Coming (strike test (linesAt s (w .n) (w .d) (w .row)))
+    go Limit h = limit (isNecklaceOf (w .d) (rowOf w))
+    go (Down p) h = lines-coming test false _ _
+    go (Up zero) h = absurd h
+    go (Up (suc i)) h = first-coming test (w .n - i) _ (up-some (w .n) (w .d) (take i (w .row)) (w .n - i) (omega (arith, length-take-le i (w .row) (omega (arith, h .1, s .most, s .long)), h .1)) (h .2))
+    go Given h = lines-coming test true _ _
+    go Ended h = absurd h
+
+-- ---- a fit walk has ended, or is good
+
+pub fit-placed : (R : Rules) (w : Walk) (s : Standing) → fitAt R s w ≡ true → (s ≡ Ended) ⊎ GoodAt s (w .n) (w .d) (w .row)
+unfolding fitAt
+fit-placed R w Limit e = inr tt
+fit-placed R w (Down p) e = inr (leb-true p (w .n) (and-eq-true-iff (leb 1 p) (leb p (w .n)) .0 e .1))
+fit-placed R w (Up zero) e = absurd (omega (arith, leb-true 2 0 (and-eq-true-iff (leb 2 0) (leb 0 (w .n) && begins (w .n) (w .d) (take (0 - 1) (w .row))) .0 e .0)))
+fit-placed R w (Up (suc i)) e =
+    let a = and-eq-true-iff (leb 2 (suc i)) (leb (suc i) (w .n) && begins (w .n) (w .d) (take (suc i - 1) (w .row))) .0 e in
+    let b = and-eq-true-iff (leb (suc i) (w .n)) (begins (w .n) (w .d) (take (suc i - 1) (w .row))) .0 (a .1) in
+    let m : suc i - 1 ≡ i = omega arith in
+    inr (omega (arith, leb-true 2 (suc i) (a .0)), omega (arith, leb-true (suc i) (w .n) (b .0)), rw m at (b .1))
+fit-placed R w Given e = inr (and-eq-true-iff (isNecklaceOf (w .d) (rowOf w)) (R .ofKind (w .kind) (rowOf w)) .0 e .0)
+fit-placed R w Ended e = inl refl
+
+-- ---- the step
+
+pub record Agrees (R : Rules) (w : Walk) (a : ℕ) (r : Stepped) : Type 0 where
+  pub tells : told (saidAs (r .answer) (r .walk)) (r .trials) ≡ listingStep (stands R w) a .tells
+  pub left : stands R (r .walk) ≡ listingStep (stands R w) a .left
+  pub fits : Fit R (r .walk)
+
+ended-stands : (R : Rules) (w : Walk) → w .at ≡ Ended → stands R w ≡ over
+unfolding stands linesAt strike
+ended-stands R w e = rw e
+
+module _ (R : Rules) (w : Walk) (a : ℕ) where
+  told-same : {s s′ : Said} {t t′ : ℕ} → s ≡ s′ → t ≡ t′ → told s t ≡ told s′ t′
+  told-same p q = cc
+
+  as-listed : {s : Said} {o : ℕ} {rest : Listing} (r : Stepped) → stands R w ≡ entry s o rest → Ran R (Good R) (Fit R) (stands R) size a 0 s o rest r → Agrees R w a r
+  unfolding listingStep
+  as-listed {s} {o} r e (spent l p q f g) = record {
+    tells = rw (e, lt-ltb a o l) (told-same (ap (λ t. saidAs t (r .walk)) p) (q ∙ zero-add a));
+    left = rw (e, lt-ltb a o l) g;
+    fits = f;
+  }
+  as-listed {s} {o} r e (given l p q f g) = record {
+    tells = rw (e, le-ltb a o l) (told-same p (q ∙ zero-add o));
+    left = rw (e, le-ltb a o l) g;
+    fits = f;
+  }
+
+  pub fit-step : Fit R w → stepOf R w a ≡ run R (enough (w .n)) a 0 w
+  unfolding stepOf
+  fit-step f = rw (f .test)
+
+  -- an ended walk: 20, no trial, no change
+  run-ended : w .at ≡ Ended → (f : ℕ) → 0 < f → run R f a 0 w ≡ stepped w (Refused HasEnded) 0
+  unfolding run moveAt
+  run-ended e zero h = absurd (omega arith)
+  run-ended e (suc f) h = rw e
+
+  ended-agrees : Fit R w → w .at ≡ Ended → Agrees R w a (stepped w (Refused HasEnded) 0)
+  unfolding listingStep
+  ended-agrees f e = record { tells = rw over-now; left = rw over-now; fits = f }
+    where
+      over-now : stands R w ≡ over
+      over-now = ended-stands R w e
+
+  pub step-agrees : Fit R w → Agrees R w a (stepOf R w a)
+  step-agrees f = rw (fit-step f) (go (fit-placed R w (w .at) (fit-at f)))
+    where
+      go : (w .at ≡ Ended) ⊎ GoodAt (w .at) (w .n) (w .d) (w .row) → Agrees R w a (run R (enough (w .n)) a 0 w)
+      go (inl e) = rw (run-ended e (enough (w .n)) (enough-some (w .n))) (ended-agrees f e)
+      go (inr p) =
+          let g : Good R w = record { sound = fit-sound f; placed = p } in
+          let b = coming R w g in
+          as-listed (run R (enough (w .n)) a 0 w) (b .is)
+          (run-as-listed R (Good R) (Fit R) (stands R) size (keeping R) (enough (w .n)) a 0 w (b .said) (b .owed) (b .rest) (moves-enough g) g (b .is))

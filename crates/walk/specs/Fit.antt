@@ -1,0 +1,36 @@
+-- "Unfit (22)": which records are fit.
+use mathlib.Core.Bool.{Bool, true, _&&_}
+use mathlib.Core.List.{List, [], _∷_}
+use Prim.Native.Nat.{ℕ, _-_}
+use lib.ListN.{take, drop}
+use lib.Dec.{leb}
+use Rattle.density.specs.Necklaces.{isNecklaceOf, begins}
+use Rattle.walk.specs.declared.Standing.{Standing}
+use Rattle.walk.specs.declared.Standing.the-variants.{Limit, Down, Up, Given, Ended}
+use Rattle.walk.specs.declared.Walk.{Walk}
+use Rattle.walk.specs.Moves.{Rules, rowOf}
+
+-- every symbol is at most b
+unfoldable pub allUpTo : ℕ → List ℕ → Bool
+allUpTo b [] = true
+allUpTo b (x ∷ xs) = leb x b && allUpTo b xs
+
+-- not "n, d or kind out of range"
+unfoldable pub fitSizes : Rules → Walk → Bool
+fitSizes R w = leb 1 (w .n) && (leb (w .n) (R .most) && (leb (w .d) (w .n) && R .known (w .kind)))
+
+-- not "a byte above 1 in places 1 to n, or not 0 after n"
+unfoldable pub fitRow : Walk → Bool
+fitRow w = allUpTo 1 (rowOf w) && allUpTo 0 (drop (w .n) (w .row))
+
+-- not "Down p with p not 1 to n; Up p with p not 2 to n, or whose first p-1 symbols begin no ring of the drawer; Given with a row
+-- not in the drawer and kind; Ended with a row not zeros"
+unfoldable pub fitAt : Rules → Standing → Walk → Bool
+fitAt R Limit w = true
+fitAt R (Down p) w = leb 1 p && leb p (w .n)
+fitAt R (Up p) w = leb 2 p && (leb p (w .n) && begins (w .n) (w .d) (take (p - 1) (w .row)))
+fitAt R Given w = isNecklaceOf (w .d) (rowOf w) && R .ofKind (w .kind) (rowOf w)
+fitAt R Ended w = allUpTo 0 (w .row)
+
+unfoldable pub fit : Rules → Walk → Bool
+fit R w = fitSizes R w && (fitRow w && fitAt R (w .at) w)
