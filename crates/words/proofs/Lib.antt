@@ -15,5 +15,9 @@ pub mod Power
 pub mod PowerOrder
 pub mod Rotations
 pub mod Root
+-- a rotation of a rotation, the least rotation, the period
+pub mod RotationAgain
+pub mod LeastRotation
+pub mod Periods
 -- wrong symbols
 pub mod Wrong
