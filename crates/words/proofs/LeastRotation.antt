@@ -1,8 +1,4 @@
 -- The least rotation of a row: it is the only necklace among the row's rotations, and the same for all of them.
-
--- ---- the least of the first k rotations, at its first place
-
--- the rotation by b is at or below the first k rotations, and below those in front of it
 use mathlib.Core.Bool.{Bool, false, true}
 use mathlib.Core.List.{List, [], _∷_}
 use mathlib.Core.Logic.{inl, inr, _⊎_}
@@ -24,6 +20,9 @@ use Rattle.words.specs.Order.{le}
 use Rattle.words.specs.Rotation.{isLeastAt, isNecklace, leastIndex, leastRotation, rotation}
 use Rattle.words.specs.Tests.{firstFrom}
 
+-- ---- the least of the first k rotations, at its first place
+
+-- the rotation by b is at or below the first k rotations, and below those in front of it
 pub record LeastOf (w : List ℕ) (k b : ℕ) : Type 0 where
   pub inside : b < k
   pub low : (i : ℕ) → i < k → rotation b w ≼ rotation i w

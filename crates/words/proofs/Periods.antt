@@ -1,8 +1,4 @@
 -- The period of a row: it divides the length, is the same for all rotations, and is the length in Lyndon words alone.
-
--- ---- the definition's number
-
--- p is the first of 1, 2, .. whose rotation gives the row back
 use mathlib.Core.Bool.{Bool, and-eq-true-iff, false, true, true≢false, _&&_}
 use mathlib.Core.List.{List, _++_, _∷_}
 use mathlib.Core.Logic.{inl, inr, _⊎_}
@@ -25,6 +21,9 @@ use Rattle.words.proofs.Rotations.{isLyndon→, isNecklace→, rotation
 use Rattle.words.specs.Order.{same}
 use Rattle.words.specs.Rotation.{isLyndon, isNecklace, period, rotation}
 
+-- ---- the definition's number
+
+-- p is the first of 1, 2, .. whose rotation gives the row back
 pub record PeriodOf (w : List ℕ) (p : ℕ) : Type 0 where
   pub low : 1 ≤ p
   pub high : p ≤ length w

@@ -1,0 +1,91 @@
+// Helpers over rows that are already checked, of any alphabet.
+use words::Order;
+ghost use mathlib.Core.Path.{_≡_};
+ghost use mathlib.Core.List.{_++_};
+ghost use Prim.Native.Nat.{_<_, _≤_};
+ghost use lib.ListN.{length, drop, getD};
+ghost use Rattle.words.specs.Rotation.{leastIndex, period, rotation};
+
+// The number of a row's least rotation, and the row's period.
+pub struct Least {
+    pub index: usize,
+    pub period: usize,
+}
+
+// The symbol at place i of the rotation by j.
+pub fn symbol(row: &[u8], j: usize, i: usize) -> u8
+    requires { ⌜ (j ≤ length (now row)) × (i < length (now row)) ⌝ }
+    ensures { λ r. ⌜ r ≡ getD (rotation j (now (row .entry))) i 0 ⌝ }
+{
+    let tail = row.len() - j;
+    if i < tail {
+        row[j + i]
+    } else {
+        row[i - tail]
+    }
+}
+
+// The least rotation: the rotations in their order against the least so far, which lies at b.
+pub fn least_rotation(row: &[u8]) -> Least
+    requires { ⌜ 0 < length (now row) ⌝ }
+    ensures { λ r. ⌜ (r .index ≡ leastIndex (now (row .entry))) × (r .period ≡ period (now (row .entry))) ⌝ }
+{
+    let n = row.len();
+    let mut b: usize = 0;
+    let mut j: usize = 1;
+    'rotations: while j < n {
+        // the tail of the row, from place j on
+        let order = words::compare(&row[j..], &row[b..b + (n - j)]);
+        match order {
+            Order::Higher => {
+                j += 1;
+                continue 'rotations;
+            }
+            Order::Lower => {
+                b = j;
+                j += 1;
+                continue 'rotations;
+            }
+            Order::Equal => {}
+        }
+        // its head
+        let mut i: usize = 0;
+        while i < j {
+            let x = row[i];
+            let y = symbol(row, b, n - j + i);
+            if y < x {
+                j += 1;
+                continue 'rotations;
+            }
+            if x < y {
+                b = j;
+                j += 1;
+                continue 'rotations;
+            }
+            i += 1;
+        }
+        // the least rotation again: from here on all of them are
+        return Least {
+            index: b,
+            period: j - b,
+        };
+    }
+    Least {
+        index: b,
+        period: n,
+    }
+}
+
+// Writes the rotation by j to the front of `out`.
+pub fn write_rotation(row: &[u8], j: usize, out: &mut [u8])
+    requires { ⌜ (j ≤ length (now row)) × (length (now row) ≤ length (now out)) ⌝ }
+    ensures { λ r. ⌜ now (out .exit) ≡ rotation j (now (row .entry)) ++ drop (length (now (row .entry))) (now (out .entry)) ⌝ }
+{
+    let n = row.len();
+    let mut i: usize = 0;
+    while i < n {
+        let x = symbol(row, j, i);
+        out[i] = x;
+        i += 1;
+    }
+}
