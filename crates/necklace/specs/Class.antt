@@ -34,3 +34,8 @@ pub record ClassNumbers : Type 0 where
 abbrev pub classNumbers : ClassAnswer → ClassNumbers
 classNumbers (Of s u) = record { number = 0; place = 0; shelved = s; unsymmetric = u }
 classNumbers (Refused r) = record { number = numberOf r; place = placeOf r; shelved = false; unsymmetric = false }
+
+-- the numbers that are due: "shelved or not, without symmetry or not", or the refusal's
+abbrev pub classDue : Verdict → List ℕ → ClassNumbers
+classDue accepted row = record { number = 0; place = 0; shelved = isNecklace row; unsymmetric = isLyndon row }
+classDue (refused r) row = record { number = numberOf r; place = placeOf r; shelved = false; unsymmetric = false }

@@ -39,3 +39,8 @@ pub record KeyNumbers : Type 0 where
 abbrev pub keyNumbers : KeyAnswer → KeyNumbers
 keyNumbers (Found j p) = record { number = 0; place = 0; turn = j; repeats = p }
 keyNumbers (Refused r) = record { number = numberOf r; place = placeOf r; turn = 0; repeats = 0 }
+
+-- the numbers that are due: "the smallest j that gives it, and the period", or the refusal's
+abbrev pub keyDue : Verdict → List ℕ → KeyNumbers
+keyDue accepted row = record { number = 0; place = 0; turn = leastIndex row; repeats = period row }
+keyDue (refused r) row = record { number = numberOf r; place = placeOf r; turn = 0; repeats = 0 }

@@ -18,11 +18,7 @@ pub fn symbol(row: &[u8], j: usize, i: usize) -> u8
     ensures { λ r. ⌜ r ≡ getD (rotation j (now (row .entry))) i 0 ⌝ }
 {
     let tail = row.len() - j;
-    if i < tail {
-        row[j + i]
-    } else {
-        row[i - tail]
-    }
+    if i < tail { row[j + i] } else { row[i - tail] }
 }
 
 // The least rotation: the rotations in their order against the least so far, which lies at b.

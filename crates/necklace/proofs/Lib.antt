@@ -1,0 +1,7 @@
+-- the rotation of a row by its tail and its head
+pub mod Parts
+-- the least rotation so far, and the first repeat of it
+pub mod Scan
+pub mod Steps
+-- writing the front of a lent buffer
+pub mod Front
