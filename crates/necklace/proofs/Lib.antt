@@ -5,3 +5,5 @@ pub mod Scan
 pub mod Steps
 -- writing the front of a lent buffer
 pub mod Front
+-- the verdicts and what they give
+pub mod Answers

@@ -19,5 +19,8 @@ pub mod Root
 pub mod RotationAgain
 pub mod LeastRotation
 pub mod Periods
+-- beginnings of the powers of a Lyndon word
+pub mod Prenecklace
+pub mod WholePowers
 -- wrong symbols
 pub mod Wrong

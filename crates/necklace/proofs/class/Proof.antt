@@ -1,0 +1,36 @@
+-- `necklace::class` meets its contract: the laws of Answers, at each return.
+use mathlib.Core.Path.{sym, _∙_}
+use borrow.Author.Needs.{needs}
+use borrow.Author.Tests.{not-false, not-true}
+use Rattle.necklace.proofs.Answers.{class-stations, class-symbol, some-stations}
+use Rattle.necklace.proofs.class.Statement.{statement}
+use Rattle.necklace.proofs.class.Tie as tie
+
+returns : tie.Need-returns
+returns c = class-stations (c .before .before .before .args .row .now) (sym (c .before .are-stations .ensures) ∙ not-true _ (c .if1 .taken))
+
+returns-2 : tie.Need-returns-2
+returns-2 c =
+    let e = sym (c .before .before .before .are-stations .ensures) ∙ not-false _ (c .before .before .if1 .left) in
+    class-symbol (c .before .before .before .before .before .args .row .now) e _ (c .before .first-wrong .ensures) (c .if2 .taken)
+
+least-rotation-requires : tie.Need-least-rotation-requires
+least-rotation-requires c κs = some-stations _ (sym (c .before .before .before .are-stations .ensures) ∙ not-false _ (c .before .before .if1 .left))
+
+returns-3 : tie.Need-returns-3
+returns-3 c = ?
+
+returns-4 : tie.Need-returns-4
+returns-4 c = ?
+
+pub class-spec : {M : Type 1} → statement M
+class-spec =
+    tie.close
+    (tie.spec
+    (λ c κs. search needs)
+    returns
+    (λ c κs. search needs)
+    returns-2
+    least-rotation-requires
+    returns-3
+    returns-4)
