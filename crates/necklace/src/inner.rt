@@ -5,6 +5,7 @@ ghost use mathlib.Core.List.{_++_};
 ghost use Prim.Native.Nat.{_<_, _≤_};
 ghost use lib.ListN.{length, drop, getD};
 ghost use Rattle.words.specs.Rotation.{leastIndex, period, rotation};
+ghost use Rattle.necklace.specs.Class.{necklacePeriod};
 
 // The number of a row's least rotation, and the row's period.
 pub struct Least {
@@ -70,6 +71,32 @@ pub fn least_rotation(row: &[u8]) -> Least
         index: b,
         period: n,
     }
+}
+
+// The period of a necklace, and 0 for a row that is none, in one pass. In front of place i the row begins u u u ..
+// for a Lyndon word u of i - j symbols, so that place j has the symbol that would go on.
+pub fn necklace_period(row: &[u8]) -> usize
+    requires { ⌜ 0 < length (now row) ⌝ }
+    ensures { λ r. ⌜ r ≡ necklacePeriod (now (row .entry)) ⌝ }
+{
+    let n = row.len();
+    let mut i: usize = 1;
+    let mut j: usize = 0;
+    while i < n {
+        let x = row[i];
+        let y = row[j];
+        if x < y {
+            return 0;
+        }
+        if y < x {
+            j = 0;
+        } else {
+            j += 1;
+        }
+        i += 1;
+    }
+    let p = n - j;
+    if n % p == 0 { p } else { 0 }
 }
 
 // Writes the rotation by j to the front of `out`.

@@ -59,13 +59,9 @@ pub fn class(row: &[u8]) -> ClassAnswer
     if wrong != 0 {
         return ClassAnswer::Refused(Refusal::Symbol(wrong));
     }
-    let least = inner::least_rotation(row);
-    let index = least.index;
-    let period = least.period;
-    let necklace = index == 0;
-    let lyndon = if necklace { period == n } else { false };
+    let p = inner::necklace_period(row);
     ClassAnswer::Of {
-        necklace: necklace,
-        lyndon: lyndon,
+        necklace: p != 0,
+        lyndon: p == n,
     }
 }

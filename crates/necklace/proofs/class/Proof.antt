@@ -1,8 +1,10 @@
 -- `necklace::class` meets its contract: the laws of Answers, at each return.
 use mathlib.Core.Path.{sym, _∙_}
+use lib.ListN.{length}
 use borrow.Author.Needs.{needs}
 use borrow.Author.Tests.{not-false, not-true}
-use Rattle.necklace.proofs.Answers.{class-stations, class-symbol, some-stations}
+use Rattle.necklace.proofs.Answers.{class-of, class-stations, class-symbol, some-stations}
+use Rattle.necklace.proofs.OnePass.{class-lyndon, class-necklace}
 use Rattle.necklace.proofs.class.Statement.{statement}
 use Rattle.necklace.proofs.class.Tie as tie
 
@@ -14,14 +16,17 @@ returns-2 c =
     let e = sym (c .before .before .before .are-stations .ensures) ∙ not-false _ (c .before .before .if1 .left) in
     class-symbol (c .before .before .before .before .before .args .row .now) e _ (c .before .first-wrong .ensures) (c .if2 .taken)
 
-least-rotation-requires : tie.Need-least-rotation-requires
-least-rotation-requires c κs = some-stations _ (sym (c .before .before .before .are-stations .ensures) ∙ not-false _ (c .before .before .if1 .left))
+necklace-period-requires : tie.Need-necklace-period-requires
+necklace-period-requires c κs = some-stations _ (sym (c .before .before .before .are-stations .ensures) ∙ not-false _ (c .before .before .if1 .left))
 
 returns-3 : tie.Need-returns-3
-returns-3 c = ?
-
-returns-4 : tie.Need-returns-4
-returns-4 c = ?
+returns-3 c =
+    let row = c .before .before .before .before .before .before .args .row .now in
+    let e = sym (c .before .before .before .before .are-stations .ensures) ∙ not-false _ (c .before .before .before .if1 .left) in
+    let f = sym (c .before .before .first-wrong .ensures) ∙ c .before .if2 .left in
+    let n = some-stations (length row) e in
+    let p = c .necklace-period .ensures in
+    class-of row e f _ _ (class-necklace row n _ p) (class-lyndon row n _ p)
 
 pub class-spec : {M : Type 1} → statement M
 class-spec =
@@ -31,6 +36,5 @@ class-spec =
     returns
     (λ c κs. search needs)
     returns-2
-    least-rotation-requires
-    returns-3
-    returns-4)
+    necklace-period-requires
+    returns-3)
