@@ -27,18 +27,18 @@ classAnswer (refused r) row = Refused r
 pub record ClassNumbers : Type 0 where
   pub number : ℕ
   pub place : ℕ
-  pub shelved : Bool
-  pub unsymmetric : Bool
+  pub necklace : Bool
+  pub lyndon : Bool
 
 -- the numbers of each case of the answer: beside a refusal neither is said
 abbrev pub classNumbers : ClassAnswer → ClassNumbers
-classNumbers (Of s u) = record { number = 0; place = 0; shelved = s; unsymmetric = u }
-classNumbers (Refused r) = record { number = numberOf r; place = placeOf r; shelved = false; unsymmetric = false }
+classNumbers (Of s u) = record { number = 0; place = 0; necklace = s; lyndon = u }
+classNumbers (Refused r) = record { number = numberOf r; place = placeOf r; necklace = false; lyndon = false }
 
 -- the numbers that are due: "shelved or not, without symmetry or not", or the refusal's
 abbrev pub classDue : Verdict → List ℕ → ClassNumbers
-classDue accepted row = record { number = 0; place = 0; shelved = isNecklace row; unsymmetric = isLyndon row }
-classDue (refused r) row = record { number = numberOf r; place = placeOf r; shelved = false; unsymmetric = false }
+classDue accepted row = record { number = 0; place = 0; necklace = isNecklace row; lyndon = isLyndon row }
+classDue (refused r) row = record { number = numberOf r; place = placeOf r; necklace = false; lyndon = false }
 
 -- ---- both in one number
 

@@ -32,15 +32,15 @@ keyWritten (refused r) row out = out
 pub record KeyNumbers : Type 0 where
   pub number : ℕ
   pub place : ℕ
-  pub turn : ℕ
-  pub repeats : ℕ
+  pub rotation : ℕ
+  pub period : ℕ
 
 -- the numbers of each case of the answer: "any other number returned beside it is 0"
 abbrev pub keyNumbers : KeyAnswer → KeyNumbers
-keyNumbers (Found j p) = record { number = 0; place = 0; turn = j; repeats = p }
-keyNumbers (Refused r) = record { number = numberOf r; place = placeOf r; turn = 0; repeats = 0 }
+keyNumbers (Found j p) = record { number = 0; place = 0; rotation = j; period = p }
+keyNumbers (Refused r) = record { number = numberOf r; place = placeOf r; rotation = 0; period = 0 }
 
 -- the numbers that are due: "the smallest j that gives it, and the period", or the refusal's
 abbrev pub keyDue : Verdict → List ℕ → KeyNumbers
-keyDue accepted row = record { number = 0; place = 0; turn = leastIndex row; repeats = period row }
-keyDue (refused r) row = record { number = numberOf r; place = placeOf r; turn = 0; repeats = 0 }
+keyDue accepted row = record { number = 0; place = 0; rotation = leastIndex row; period = period row }
+keyDue (refused r) row = record { number = numberOf r; place = placeOf r; rotation = 0; period = 0 }

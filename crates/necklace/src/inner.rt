@@ -84,11 +84,11 @@ pub fn necklace_period(row: &[u8]) -> usize
     let mut j: usize = 0;
     while i < n {
         let x = row[i];
-        let y = row[j];
-        if x < y {
+        let due = row[j];
+        if x < due {
             return 0;
         }
-        if y < x {
+        if due < x {
             j = 0;
         } else {
             j += 1;
@@ -105,10 +105,10 @@ pub fn write_rotation(row: &[u8], j: usize, out: &mut [u8])
     ensures { λ r. ⌜ now (out .exit) ≡ rotation j (now (row .entry)) ++ drop (length (now (row .entry))) (now (out .entry)) ⌝ }
 {
     let n = row.len();
-    let mut i: usize = 0;
-    while i < n {
-        let x = symbol(row, j, i);
-        out[i] = x;
-        i += 1;
+    let mut at: usize = 0;
+    while at < n {
+        let x = symbol(row, j, at);
+        out[at] = x;
+        at += 1;
     }
 }

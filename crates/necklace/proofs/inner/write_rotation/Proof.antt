@@ -18,10 +18,10 @@ record Inv (row : List ℕ) (j : ℕ) (out₀ out : List ℕ) (n i : ℕ) : Type
   room : length out ≡ length out₀
 
 abbrev Inv-loop : tie.InvT-loop
-Inv-loop row j out₀ n i₀ out i = Inv row j out₀ out n i
+Inv-loop row j out₀ n at₀ out at = Inv row j out₀ out n at
 
 abbrev μ-loop : tie.MeasureT-loop
-μ-loop row j out₀ n i₀ out i = n - i
+μ-loop row j out₀ n at₀ out at = n - at
 
 loop-again : tie.Need-loop-again Inv-loop μ-loop
 loop-again c =
@@ -31,7 +31,7 @@ loop-again c =
     record {
       whole = refl;
       inside = omega arith;
-      written = front-on (rotation (s .j) (s .row .now)) (s .out .now) (l .out) (l .i) (c .symbol .result) (omega arith) (omega arith) (l .inv .written) (c .symbol .ensures);
+      written = front-on (rotation (s .j) (s .row .now)) (s .out .now) (l .out) (l .at) (c .symbol .result) (omega arith) (omega arith) (l .inv .written) (c .symbol .ensures);
       room = simp length-set (l .inv .room);
     }
 
@@ -40,7 +40,7 @@ returns c =
     let l = c .before .loop in
     let s = c .before .before .before .before .args in
     let size = rotation-length (s .j) (s .row .now) in
-    front-all (rotation (s .j) (s .row .now)) (s .out .now) (l .out) (l .i) (omega arith) (l .inv .written) ∙ rw size
+    front-all (rotation (s .j) (s .row .now)) (s .out .now) (l .out) (l .at) (omega arith) (l .inv .written) ∙ rw size
 
 pub write-rotation-spec : {M : Type 1} → statement M
 write-rotation-spec =
