@@ -29,39 +29,32 @@ pub fn least_rotation(row: &[u8]) -> Least
 {
     let n = row.len();
     let mut b: usize = 0;
-    let mut j: usize = 1;
-    'rotations: while j < n {
+    'rotations: for j in 1..n {
         // the tail of the row, from place j on
         let order = words::compare(&row[j..], &row[b..b + (n - j)]);
         match order {
             Order::Higher => {
-                j += 1;
                 continue 'rotations;
             }
             Order::Lower => {
                 b = j;
-                j += 1;
                 continue 'rotations;
             }
             Order::Equal => {}
         }
         // its head
-        let mut i: usize = 0;
-        while i < j {
+        for i in 0..j {
             let x = row[i];
             let y = symbol(row, b, n - j + i);
             if y < x {
-                j += 1;
                 continue 'rotations;
             }
             if x < y {
                 b = j;
-                j += 1;
                 continue 'rotations;
             }
-            i += 1;
         }
-        // the least rotation again: from here on all of them are
+        // the least rotation again: from here on all of them are rotations seen before
         return Least {
             index: b,
             period: j - b,
