@@ -2,7 +2,7 @@
 use mathlib.Core.Bool.{Bool, cond, false, true}
 use mathlib.Core.List.{List, [], _++_, _∷_}
 use mathlib.Core.Path.{refl, _≡_}
-use Prim.Native.Nat.{suc, zero, ℕ, _+_, _≤_}
+use Prim.Native.Nat.{suc, zero, ℕ, _≤_}
 use native.Mathlib.Omega.{arith}
 use lib.Dec.{ltb}
 use lib.ListN.{getD, length, replicate}
@@ -86,18 +86,6 @@ unfolding density sum
 density-sum empty = refl
 density-sum (zero∷ b) = omega (arith, density-sum b)
 density-sum (one∷ b) = omega (arith, density-sum b)
-
-pub sum-append : (a b : List ℕ) → sum (a ++ b) ≡ sum a + sum b
-unfolding sum
-sum-append [] b = omega arith
-sum-append (x ∷ a) b = omega (arith, sum-append a b)
-
-pub density-append : (a b : List ℕ) → density (a ++ b) ≡ density a + density b
-unfolding density
-density-append [] b = omega arith
-density-append (zero ∷ a) b = density-append a b
-density-append (suc zero ∷ a) b = omega (arith, density-append a b)
-density-append (suc (suc x) ∷ a) b = density-append a b
 
 pub binary-sum : {a : List ℕ} → Binary a → sum a ≤ length a
 unfolding sum

@@ -1,4 +1,11 @@
 -- rows of zeros and ones, the enumeration of them, and of the necklaces of (n, d)
+pub mod Counts
 pub mod Binary
 pub mod Enumeration
 pub mod Members
+-- the largest necklace of (n, d): prefix sums, the balanced row, the lowest rotation of a row
+pub mod Sums
+pub mod BalancedRow
+pub mod LowRotation
+pub mod Largest
+pub mod Scaled

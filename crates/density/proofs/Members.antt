@@ -8,7 +8,7 @@ use Prim.Native.Nat.{ℕ}
 use lib.Dec.{eqb}
 use lib.ListN.{length}
 use borrow.Author.Tests.{eq-eqb, eqb-true}
-use Rattle.density.proofs.Binary.{Binary}
+use Rattle.density.proofs.Binary.{Binary, density-sum}
 use Rattle.density.proofs.Enumeration.{in-rows, out-rows, rows-falling}
 use Rattle.density.specs.Density.{allRows, density}
 use Rattle.density.specs.Necklaces.{begins, isNecklaceOf, largestNecklace, necklaces, necklacesOfKind, ofKind}
@@ -18,6 +18,7 @@ use Rattle.words.proofs.Lists.{any→, isPrefix→, keep→, →any, →isPrefi
 use Rattle.words.proofs.PowerOrder.{Necklace}
 use Rattle.words.proofs.Rotations.{isNecklace→, →isNecklace}
 use Rattle.words.specs.Rotation.{isNecklace}
+use Rattle.words.specs.Symbols.{sum}
 use Rattle.words.specs.Tests.{isPrefix}
 
 pub record Member (n d : ℕ) (w : List ℕ) : Type 0 where
@@ -25,6 +26,13 @@ pub record Member (n d : ℕ) (w : List ℕ) : Type 0 where
   pub binary : Binary w
   pub count : density w ≡ d
   pub least : Necklace w
+
+-- by the sum in the density's stead
+pub member-of : {n d : ℕ} {w : List ℕ} → length w ≡ n → Binary w → sum w ≡ d → Necklace w → Member n d w
+member-of l b c s = record { long = l; binary = b; count = density-sum b ∙ c; least = s }
+
+pub member-sum : {n d : ℕ} {w : List ℕ} → Member n d w → sum w ≡ d
+member-sum m = sym (density-sum (m .binary)) ∙ m .count
 
 pub isNecklaceOf→ : (d : ℕ) (w : List ℕ) → isNecklaceOf d w ≡ true → (density w ≡ d) × Necklace w
 unfolding isNecklaceOf

@@ -1,3 +1,4 @@
 -- Binary rows.
 pub mod Density
 pub mod Necklaces
+pub mod Balanced

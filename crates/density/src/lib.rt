@@ -1,1 +1,2 @@
-// Binary rows: their density, and the necklaces of length n and density d. Definitions and laws.
+// Binary rows: their density, and the necklaces of length n and density d.
+pub mod count;

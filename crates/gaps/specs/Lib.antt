@@ -1,1 +1,3 @@
+-- Gap lists.
 pub mod Gaps
+pub mod Answers

@@ -1,1 +1,145 @@
-// Gap lists: a row as the numbers of plain stations before its holes. Definitions.
+// Gap lists: a row as the numbers of plain stations before its holes.
+ghost use mathlib.Core.Path.{_≡_};
+ghost use Prim.Native.Nat.{_≤_, _<_};
+ghost use mathlib.Core.Bool.{true};
+ghost use mathlib.Core.List.{[], _++_};
+ghost use lib.ListN.{length, drop};
+ghost use Rattle.density.specs.Density.{density};
+ghost use Rattle.gaps.specs.Gaps.{fills, rowOfGaps, gapsOfRow, hasGapList};
+ghost use Rattle.gaps.specs.Answers.{rowVerdict, rowAnswer, rowWritten, listVerdict, listAnswer, listWritten};
+use refusal::Refusal;
+
+// Whether the row of a gap list was written.
+pub enum RowAnswer {
+    Written,
+    NoRow(Refusal),
+}
+
+// How many gaps were written.
+pub enum ListAnswer {
+    Listed(usize),
+    NoList(Refusal),
+}
+
+// Whether the gaps and their holes make up n stations. An empty list makes up any.
+fn gaps_fill(n: usize, gaps: &[usize]) -> bool
+    ensures { λ r. ⌜ r ≡ fills n (now (gaps .entry)) ⌝ }
+{
+    if gaps.len() == 0 {
+        return true;
+    }
+    let mut left = n;
+    let mut k: usize = 0;
+    while k < gaps.len() {
+        let gap = gaps[k];
+        if left <= gap {
+            return false;
+        }
+        left = left - gap - 1;
+        k += 1;
+    }
+    left == 0
+}
+
+// Zeros to the front of a buffer.
+fn clear(n: usize, out: &mut [u8])
+    requires { ⌜ n ≤ length (now out) ⌝ }
+    ensures { λ r. ⌜ now (out .exit) ≡ rowOfGaps n [] ++ drop n (now (out .entry)) ⌝ }
+{
+    let mut i: usize = 0;
+    while i < n {
+        out[i] = 0;
+        i += 1;
+    }
+}
+
+// The row of a gap list to the front of a buffer: zeros, and then a hole behind each gap.
+fn write_row(n: usize, gaps: &[usize], out: &mut [u8])
+    requires { ⌜ (n ≤ length (now out)) × (fills n (now gaps) ≡ true) ⌝ }
+    ensures { λ r. ⌜ now (out .exit) ≡ rowOfGaps n (now (gaps .entry)) ++ drop n (now (out .entry)) ⌝ }
+{
+    clear(n, out);
+    let mut place: usize = 0;
+    let mut k: usize = 0;
+    while k < gaps.len() {
+        place += gaps[k];
+        out[place] = 1;
+        place += 1;
+        k += 1;
+    }
+}
+
+// Gap list to row.
+pub fn row_of_gaps(n: usize, gaps: &[usize], out: &mut [u8]) -> RowAnswer
+    ensures { λ r. ⌜ (r ≡ rowAnswer (rowVerdict n (now (gaps .entry)) (length (now (out .entry))))) × (now (out .exit) ≡ rowWritten (rowVerdict n (now (gaps .entry)) (length (now (out .entry)))) n (now (gaps .entry)) (now (out .entry))) ⌝ }
+{
+    if !refusal::are_stations(n) {
+        return RowAnswer::NoRow(Refusal::Stations);
+    }
+    if n < gaps.len() {
+        return RowAnswer::NoRow(Refusal::Holes);
+    }
+    if !gaps_fill(n, gaps) {
+        return RowAnswer::NoRow(Refusal::GapSum);
+    }
+    if out.len() < n {
+        return RowAnswer::NoRow(Refusal::Buffer);
+    }
+    write_row(n, gaps, out);
+    RowAnswer::Written
+}
+
+// Whether a row with so many holes has a gap list: it has no hole, or ends in one.
+fn has_gap_list(row: &[u8], holes: usize) -> bool
+    requires { ⌜ (0 < length (now row)) × (holes ≡ density (now row)) ⌝ }
+    ensures { λ r. ⌜ r ≡ hasGapList (now (row .entry)) ⌝ }
+{
+    if holes == 0 {
+        return true;
+    }
+    row[row.len() - 1] == 1
+}
+
+// The gaps of a row to the front of a buffer; how many there are.
+fn write_gaps(row: &[u8], out: &mut [usize]) -> usize
+    requires { ⌜ length (gapsOfRow (now row)) ≤ length (now out) ⌝ }
+    ensures { λ r. ⌜ (r ≡ length (gapsOfRow (now (row .entry)))) × (now (out .exit) ≡ gapsOfRow (now (row .entry)) ++ drop (length (gapsOfRow (now (row .entry)))) (now (out .entry))) ⌝ }
+{
+    let mut k: usize = 0;
+    let mut zeros: usize = 0;
+    let mut i: usize = 0;
+    while i < row.len() {
+        if row[i] == 0 {
+            zeros += 1;
+        } else {
+            out[k] = zeros;
+            k += 1;
+            zeros = 0;
+        }
+        i += 1;
+    }
+    k
+}
+
+// Row to gap list.
+pub fn gaps_of_row(row: &[u8], out: &mut [usize]) -> ListAnswer
+    ensures { λ r. ⌜ (r ≡ listAnswer (listVerdict (now (row .entry)) (length (now (out .entry)))) (now (row .entry))) × (now (out .exit) ≡ listWritten (listVerdict (now (row .entry)) (length (now (out .entry)))) (now (row .entry)) (now (out .entry))) ⌝ }
+{
+    let n = row.len();
+    if !refusal::are_stations(n) {
+        return ListAnswer::NoList(Refusal::Stations);
+    }
+    let wrong = words::first_wrong(row, 2);
+    if wrong != 0 {
+        return ListAnswer::NoList(Refusal::Symbol(wrong));
+    }
+    let holes = density::count::count_ones(row);
+    if !has_gap_list(row, holes) {
+        return ListAnswer::NoList(Refusal::LastGap);
+    }
+    if out.len() < holes {
+        return ListAnswer::NoList(Refusal::Buffer);
+    }
+    let listed = write_gaps(row, out);
+    ListAnswer::Listed(listed)
+}

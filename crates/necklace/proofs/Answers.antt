@@ -1,27 +1,21 @@
 -- The verdicts of key and class, test by test, and what each gives.
-use mathlib.Core.Bool.{Bool, and-eq-true-iff, false, true}
+use mathlib.Core.Bool.{Bool, false, true}
 use mathlib.Core.List.{List, _++_}
 use mathlib.Core.Path.{refl, _≡_}
 use Prim.Native.Nat.{ℕ, _<_, _≤_}
-use lib.Dec.{leb}
 use lib.ListN.{drop, length}
-use borrow.Author.Tests.{eq-eqb, le-leb, leb-true, lt-leb, ne-eqb}
+use borrow.Author.Tests.{eq-eqb, le-leb, lt-leb, ne-eqb}
 use Rattle.necklace.specs.Class.{classAnswer, classDue, classNumbers, classVerdict}
 use Rattle.necklace.specs.Key.{keyAnswer, keyDue, keyNumbers, keyVerdict, keyWritten}
 use Rattle.necklace.specs.declared.ClassAnswer.{ClassAnswer}
 use Rattle.necklace.specs.declared.ClassAnswer.the-variants.{Of}
 use Rattle.necklace.specs.declared.KeyAnswer.{KeyAnswer}
 use Rattle.necklace.specs.declared.KeyAnswer.the-variants.{Found, Refused}
-use Rattle.refusal.specs.Verdicts.{accepted, areStations, mostStations, refused}
+use Rattle.refusal.specs.Verdicts.{accepted, areStations, refused}
 use Rattle.refusal.specs.declared.Refusal.{Refusal}
 use Rattle.refusal.specs.declared.Refusal.the-variants.{Buffer, Stations, Symbol}
 use Rattle.words.specs.Rotation.{isLyndon, isNecklace, leastIndex, leastRotation, period, rotation}
 use Rattle.words.specs.Symbols.{firstWrong}
-
--- a row of stations has a symbol
-pub some-stations : (n : ℕ) → areStations n ≡ true → 0 < n
-unfolding areStations
-some-stations n e = leb-true 1 n (and-eq-true-iff (leb 1 n) (leb n mostStations) .0 e .0)
 
 -- ---- key
 

@@ -66,30 +66,17 @@ pub fn least_rotation(row: &[u8]) -> Least
     }
 }
 
-// The period of a necklace, and 0 for a row that is none, in one pass. In front of place i the row begins u u u ..
-// for a Lyndon word u of i - j symbols, so that place j has the symbol that would go on.
+// The period of a necklace, and 0 for a row that is none, in one pass.
 pub fn necklace_period(row: &[u8]) -> usize
     requires { ⌜ 0 < length (now row) ⌝ }
     ensures { λ r. ⌜ r ≡ necklacePeriod (now (row .entry)) ⌝ }
 {
-    let n = row.len();
-    let mut i: usize = 1;
-    let mut j: usize = 0;
-    while i < n {
-        let x = row[i];
-        let due = row[j];
-        if x < due {
-            return 0;
-        }
-        if due < x {
-            j = 0;
-        } else {
-            j += 1;
-        }
-        i += 1;
+    let zeros = words::inner::leading_zeros(row);
+    let p = words::inner::prefix_period(row, zeros);
+    if p == 0 {
+        return 0;
     }
-    let p = n - j;
-    if n % p == 0 { p } else { 0 }
+    if row.len() % p == 0 { p } else { 0 }
 }
 
 // Writes the rotation by j to the front of `out`.

@@ -11,11 +11,6 @@ pub pred-size : (n : ℕ) → 0 < n → 1 + pred n ≡ n
 pred-size zero h = absurd (omega arith)
 pred-size (suc n) h = omega arith
 
--- a test that can't pass fails
-pub refuted : (t : Bool) → (t ≡ true → ⊥) → t ≡ false
-refuted true h = absurd (h refl)
-refuted false h = refl
-
 pub allBelow→ : (n : ℕ) (f : ℕ → Bool) → allBelow n f ≡ true → (j : ℕ) → j < n → f j ≡ true
 unfolding allBelow
 allBelow→ zero f e j h = absurd (not-suc-le-zero h)

@@ -11,7 +11,8 @@ use lib.ListN.{length}
 use borrow.Author.Tests.{eqb-false, eqb-true}
 use Rattle.words.proofs.AtMost.{lower, not-both, ≺-≼-trans, ≼-antisym, ≼-or, ≼-refl, _≼_}
 use Rattle.words.proofs.Below.{le-or, _≺_}
-use Rattle.words.proofs.Bounded.{allBelow→, first-is, pred-size, refuted, →allBelow}
+use Rattle.words.proofs.Booleans.{never}
+use Rattle.words.proofs.Bounded.{allBelow→, first-is, pred-size, →allBelow}
 use Rattle.words.proofs.OrderTests.{le→, →le}
 use Rattle.words.proofs.PowerOrder.{Necklace}
 use Rattle.words.proofs.RotationAgain.{IsRotation, rotation-sym, rotation-trans}
@@ -65,7 +66,7 @@ pub least-is : (w : List ℕ) (b : ℕ) → LeastOf w (length w) b → leastInde
 unfolding leastIndex isLeastAt
 least-is w b m =
     first-is (pred (length w)) 0 b (isLeastAt w) (omega arith) (omega (arith, m .inside, pred-size (length w) (omega (arith, m .inside))))
-    (λ i g h. refuted (isLeastAt w i) (λ e. not-both (m .first i h) (le→ (rotation i w) (rotation b w) (allBelow→ (length w) (λ k. le (rotation i w) (rotation k w)) e b (m .inside)))))
+    (λ i g h. never (isLeastAt w i) (λ e. not-both (m .first i h) (le→ (rotation i w) (rotation b w) (allBelow→ (length w) (λ k. le (rotation i w) (rotation k w)) e b (m .inside)))))
     (λ h. →allBelow (length w) (λ k. le (rotation b w) (rotation k w)) (λ k l. →le (rotation b w) (rotation k w) (m .low k l)))
 
 pub least-index : (w : List ℕ) → 0 < length w → LeastOf w (length w) (leastIndex w)
@@ -133,4 +134,4 @@ necklace-test w = go (eqb (leastIndex w) 0) refl
   where
     go : (t : Bool) → eqb (leastIndex w) 0 ≡ t → isNecklace w ≡ t
     go true e = →isNecklace w (index-necklace w (eqb-true (leastIndex w) 0 e))
-    go false e = refuted (isNecklace w) (λ s. eqb-false (leastIndex w) 0 e (necklace-index w (isNecklace→ w s)))
+    go false e = never (isNecklace w) (λ s. eqb-false (leastIndex w) 0 e (necklace-index w (isNecklace→ w s)))

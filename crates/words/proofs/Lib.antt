@@ -4,6 +4,7 @@ pub mod FirstDifference
 pub mod AtMost
 pub mod OrderTests
 -- tests over numbers and lists, falling lists
+pub mod Booleans
 pub mod Bounded
 pub mod Lists
 pub mod Falling
@@ -19,8 +20,14 @@ pub mod Root
 pub mod RotationAgain
 pub mod LeastRotation
 pub mod Periods
--- beginnings of the powers of a Lyndon word
-pub mod Prenecklace
-pub mod WholePowers
--- wrong symbols
+-- rows that begin a necklace: their period, one pass over them, what may follow a Lyndon word
+pub mod Prefixes
+pub mod ScanMeaning
+pub mod Repetition
+pub mod OnePeriod
+pub mod Following
+pub mod ScanSteps
+-- for loops: wrong symbols, writing the front of a buffer
+pub mod Zeros
 pub mod Wrong
+pub mod Front

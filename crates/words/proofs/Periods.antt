@@ -12,7 +12,8 @@ use lib.Seq.{length-take-le}
 use borrow.Author.Tests.{eq-eqb, eqb-true}
 use Rattle.words.proofs.AtMost.{equal, lower, ≺-≼-trans, ≼-append, _≼_}
 use Rattle.words.proofs.Below.{le-or, ≺-irrefl, _≺_}
-use Rattle.words.proofs.Bounded.{FirstOf, first-is, first-of, pred-size, refuted}
+use Rattle.words.proofs.Booleans.{never}
+use Rattle.words.proofs.Bounded.{FirstOf, first-is, first-of, pred-size}
 use Rattle.words.proofs.Lyndon.{Lyndon, lyndon-of, lyndon-size, rotations→suffixes, suffix}
 use Rattle.words.proofs.OrderTests.{same→, →same}
 use Rattle.words.proofs.PowerOrder.{Necklace, lyndon→necklace}
@@ -35,7 +36,7 @@ unfolding period
 period-is w p m =
     let size = pred-size (length w) (omega (arith, m .low, m .high)) in
     first-is (pred (length w)) 1 p (λ p. same (rotation p w) w) (m .low) (omega (arith, m .high))
-    (λ i h l. refuted (same (rotation i w) w) (λ e. m .before i h l (same→ (rotation i w) w e)))
+    (λ i h l. never (same (rotation i w) w) (λ e. m .before i h l (same→ (rotation i w) w e)))
     (λ h. →same (rotation p w) w (m .back))
 
 pub period-of : (w : List ℕ) → 0 < length w → PeriodOf w (period w)
@@ -76,8 +77,8 @@ multiple w p e (suc k) h =
     let s : suc k * p ≡ p + k * p = omega arith in
     rw s (sym (rotation-again w (k * p) p (omega arith)) ∙ ap (rotation (k * p)) e ∙ multiple w p e k (omega arith))
 
-pub period-divides : (w : List ℕ) → 0 < length w → length w % period w ≡ 0
-period-divides w h = go (le-or r 0)
+pub divides-length : (w : List ℕ) → 0 < length w → length w % period w ≡ 0
+divides-length w h = go (le-or r 0)
   where
     m : PeriodOf w (period w)
     m = period-of w h
@@ -133,7 +134,7 @@ lyndon-test w h = go (isNecklace w && eqb (period w) (length w)) refl
     go true e =
         let b = and-eq-true-iff (isNecklace w) (eqb (period w) (length w)) .0 e in
         →isLyndon w (period-lyndon w h (isNecklace→ w (b .0)) (eqb-true (period w) (length w) (b .1)))
-    go false e = refuted (isLyndon w) (λ q. true≢false (sym (both (isLyndon→ w q)) ∙ e))
+    go false e = never (isLyndon w) (λ q. true≢false (sym (both (isLyndon→ w q)) ∙ e))
       where
         both : Lyndon w → (isNecklace w && eqb (period w) (length w)) ≡ true
         both l = and-eq-true-iff (isNecklace w) (eqb (period w) (length w)) .1 (→isNecklace w (lyndon→necklace l), eq-eqb (period w) (length w) (lyndon-period w l))

@@ -3,3 +3,4 @@ pub mod Order
 pub mod Tests
 pub mod Rotation
 pub mod Symbols
+pub mod Scan

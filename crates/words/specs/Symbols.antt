@@ -1,8 +1,13 @@
--- The symbols of a row: their sum, and the first that is none of an alphabet.
+-- The symbols of a row: zeros, their sum, and the first that is none of an alphabet.
 use mathlib.Core.Bool.{Bool, true, false, cond}
 use mathlib.Core.List.{List, [], _∷_}
 use Prim.Native.Nat.{ℕ, zero, suc, _+_}
+use lib.ListN.{replicate}
 use lib.Dec.{ltb}
+
+-- n zeros
+abbrev pub zeros : ℕ → List ℕ
+zeros n = replicate n 0
 
 unfoldable pub sum : List ℕ → ℕ
 sum [] = 0

@@ -1,4 +1,6 @@
 // Rows over any alphabet: the comparison of two rows, and the search for a wrong symbol.
+pub mod inner;
+
 ghost use mathlib.Core.Path.{_≡_};
 ghost use Rattle.words.specs.Order.{cmp, orderOf};
 ghost use Rattle.words.specs.Symbols.{firstWrong};

@@ -3,8 +3,9 @@ use mathlib.Core.Path.{sym, _∙_}
 use lib.ListN.{length}
 use borrow.Author.Needs.{needs}
 use borrow.Author.Tests.{not-false, not-true}
-use Rattle.necklace.proofs.Answers.{class-of, class-stations, class-symbol, some-stations}
+use Rattle.necklace.proofs.Answers.{class-of, class-stations, class-symbol}
 use Rattle.necklace.proofs.OnePass.{class-lyndon, class-necklace}
+use Rattle.refusal.proofs.Stations.{stations→}
 use Rattle.necklace.proofs.class.Statement.{statement}
 use Rattle.necklace.proofs.class.Tie as tie
 
@@ -17,14 +18,14 @@ returns-2 c =
     class-symbol (c .before .before .before .before .before .args .row .now) e _ (c .before .first-wrong .ensures) (c .if2 .taken)
 
 necklace-period-requires : tie.Need-necklace-period-requires
-necklace-period-requires c κs = some-stations _ (sym (c .before .before .before .are-stations .ensures) ∙ not-false _ (c .before .before .if1 .left))
+necklace-period-requires c κs = stations→ _ (sym (c .before .before .before .are-stations .ensures) ∙ not-false _ (c .before .before .if1 .left)) .some
 
 returns-3 : tie.Need-returns-3
 returns-3 c =
     let row = c .before .before .before .before .before .before .args .row .now in
     let e = sym (c .before .before .before .before .are-stations .ensures) ∙ not-false _ (c .before .before .before .if1 .left) in
     let f = sym (c .before .before .first-wrong .ensures) ∙ c .before .if2 .left in
-    let n = some-stations (length row) e in
+    let n = stations→ (length row) e .some in
     let p = c .necklace-period .ensures in
     class-of row e f _ _ (class-necklace row n _ p) (class-lyndon row n _ p)
 

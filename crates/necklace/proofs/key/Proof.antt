@@ -3,7 +3,8 @@ use mathlib.Core.Path.{sym, _∙_}
 use native.Mathlib.Omega.{arith}
 use borrow.Author.Needs.{needs}
 use borrow.Author.Tests.{not-false, not-true}
-use Rattle.necklace.proofs.Answers.{key-buffer, key-found, key-stations, key-symbol, some-stations}
+use Rattle.necklace.proofs.Answers.{key-buffer, key-found, key-stations, key-symbol}
+use Rattle.refusal.proofs.Stations.{stations→}
 use Rattle.words.proofs.LeastRotation.{least-index}
 use Rattle.necklace.proofs.key.Statement.{statement}
 use Rattle.necklace.proofs.key.Tie as tie
@@ -26,12 +27,12 @@ returns-3 c =
     key-buffer (s .row .now) (s .out .now) e (sym (c .before .before .first-wrong .ensures) ∙ c .before .if2 .left) (c .if3 .taken)
 
 least-rotation-requires : tie.Need-least-rotation-requires
-least-rotation-requires c κs = some-stations _ (sym (c .before .before .before .before .are-stations .ensures) ∙ not-false _ (c .before .before .before .if1 .left))
+least-rotation-requires c κs = stations→ _ (sym (c .before .before .before .before .are-stations .ensures) ∙ not-false _ (c .before .before .before .if1 .left)) .some
 
 write-rotation-requires : tie.Need-write-rotation-requires
 write-rotation-requires c κs =
     let s = c .before .before .before .before .before .before .before .before .before .args in
-    let n = some-stations _ (sym (c .before .before .before .before .before .before .are-stations .ensures) ∙ not-false _ (c .before .before .before .before .before .if1 .left)) in
+    let n = stations→ _ (sym (c .before .before .before .before .before .before .are-stations .ensures) ∙ not-false _ (c .before .before .before .before .before .if1 .left)) .some in
     let l = least-index (s .row .now) n .inside in
     (omega (arith, c .before .least-rotation .ensures .0), c .before .before .if3 .left)
 

@@ -5,7 +5,7 @@ use Prim.Native.Nat.{ℕ, _-_, _≤_}
 use native.Mathlib.Omega.{arith}
 use lib.ListN.{length, length-set}
 use borrow.Author.Needs.{needs}
-use Rattle.necklace.proofs.Front.{Front, front-all, front-on}
+use Rattle.words.proofs.Front.{Front, front-all, front-turn}
 use Rattle.words.proofs.Rotations.{rotation-length}
 use Rattle.words.specs.Rotation.{rotation}
 use Rattle.necklace.proofs.inner.write_rotation.Statement.{statement}
@@ -31,7 +31,7 @@ loop-again c =
     record {
       whole = refl;
       inside = omega arith;
-      written = front-on (rotation (s .j) (s .row .now)) (s .out .now) (l .out) (l .at) (c .symbol .result) (omega arith) (omega arith) (l .inv .written) (c .symbol .ensures);
+      written = front-turn (rotation (s .j) (s .row .now)) (s .out .now) (l .out) (l .at) (c .symbol .result) (omega arith) (omega arith) (l .inv .written) (c .symbol .ensures);
       room = simp length-set (l .inv .room);
     }
 

@@ -15,27 +15,28 @@ use Rattle.words.proofs.RotationAgain.{fixed-rotation, rotation-again, rotation
 use Rattle.words.proofs.Rotations.{rotation-whole}
 use Rattle.words.specs.Rotation.{leastIndex, period, rotation}
 
-pub record Scan (w : List ℕ) (k b : ℕ) : Type 0 where
+-- the first k rotations are seen: the least of them lies at b, and none behind it is its equal
+pub record Seen (w : List ℕ) (k b : ℕ) : Type 0 where
   pub least : LeastOf w k b
   pub apart : (i : ℕ) → b < i → i < k → rotation b w ≺ rotation i w
 
-pub scan-start : (w : List ℕ) → Scan w 1 0
-scan-start w = record { least = least-start w; apart = λ i h l. absurd (omega arith) }
+pub seen-start : (w : List ℕ) → Seen w 1 0
+seen-start w = record { least = least-start w; apart = λ i h l. absurd (omega arith) }
 
 -- the next rotation is higher
-pub scan-keep : {w : List ℕ} {k b : ℕ} → Scan w k b → rotation b w ≺ rotation k w → Scan w (k + 1) b
-scan-keep {w} {k} {b} s q = record { least = least-keep (s .least) (lower q); apart = λ i h l. pick i (le-or k i) h l }
+pub seen-keep : {w : List ℕ} {k b : ℕ} → Seen w k b → rotation b w ≺ rotation k w → Seen w (k + 1) b
+seen-keep {w} {k} {b} s q = record { least = least-keep (s .least) (lower q); apart = λ i h l. pick i (le-or k i) h l }
   where
     pick : (i : ℕ) → (k ≤ i) ⊎ (i < k) → b < i → i < k + 1 → rotation b w ≺ rotation i w
     pick i (inl m) h l = let e : i ≡ k = omega arith in rw e q
     pick i (inr m) h l = s .apart i h m
 
 -- the next rotation is lower
-pub scan-take : {w : List ℕ} {k b : ℕ} → Scan w k b → rotation k w ≺ rotation b w → Scan w (k + 1) k
-scan-take s q = record { least = least-take (s .least) q; apart = λ i h l. absurd (omega arith) }
+pub seen-take : {w : List ℕ} {k b : ℕ} → Seen w k b → rotation k w ≺ rotation b w → Seen w (k + 1) k
+seen-take s q = record { least = least-take (s .least) q; apart = λ i h l. absurd (omega arith) }
 
 -- all rotations but the least lie above it
-others : {w : List ℕ} {k b : ℕ} → Scan w k b → (i : ℕ) → i < k → (i ≡ b → ⊥) → rotation b w ≺ rotation i w
+others : {w : List ℕ} {k b : ℕ} → Seen w k b → (i : ℕ) → i < k → (i ≡ b → ⊥) → rotation b w ≺ rotation i w
 others {w} {k} {b} s i h n = go (le-or b i)
   where
     past : (b ≡ i) ⊎ (b < i) → rotation b w ≺ rotation i w
@@ -48,8 +49,8 @@ others {w} {k} {b} s i h n = go (le-or b i)
 
 -- ---- all rotations are seen, and none repeats the least
 
-pub scan-end : (w : List ℕ) (b : ℕ) → Scan w (length w) b → (leastIndex w ≡ b) × (period w ≡ length w)
-scan-end w b s = (least-is w b (s .least), period-is w (length w) (record { low = omega arith; high = omega arith; back = rotation-whole (length w) w (omega arith); before = before }))
+pub seen-all : (w : List ℕ) (b : ℕ) → Seen w (length w) b → (leastIndex w ≡ b) × (period w ≡ length w)
+seen-all w b s = (least-is w b (s .least), period-is w (length w) (record { low = omega arith; high = omega arith; back = rotation-whole (length w) w (omega arith); before = before }))
   where
     inside : b < length w
     inside = s .least .inside
@@ -69,7 +70,7 @@ scan-end w b s = (least-is w b (s .least), period-is w (length w) (record { low 
 
 -- ---- a rotation repeats the least
 
-module _ (w : List ℕ) (k b : ℕ) (s : Scan w k b) (hk : k < length w) (e : rotation k w ≡ rotation b w) where
+module _ (w : List ℕ) (k b : ℕ) (s : Seen w k b) (hk : k < length w) (e : rotation k w ≡ rotation b w) where
   inside : b < k
   inside = s .least .inside
 
@@ -101,6 +102,6 @@ module _ (w : List ℕ) (k b : ℕ) (s : Scan w k b) (hk : k < length w) (e : ro
           go (inl l) = rw (again l) at (ih (i - (k - b)) (omega (arith, inside)) (omega arith))
           go (inr l) = s .least .low i l
 
-  pub scan-repeat : (leastIndex w ≡ b) × (period w ≡ k - b)
-  scan-repeat =
+  pub seen-repeat : (leastIndex w ≡ b) × (period w ≡ k - b)
+  seen-repeat =
       (least-is w b (record { inside = omega (arith, inside); low = low; first = s .least .first }), period-is w (k - b) (record { low = omega (arith, inside); high = omega arith; back = back; before = before }))

@@ -1,4 +1,6 @@
--- Beginnings of the powers of a Lyndon word, one symbol longer: what goes on, what leaves upwards, what falls.
+-- Prefixes of the powers of a Lyndon word, one symbol longer: P1, P2, P3.
+
+-- The first p symbols of a are a Lyndon word u, and a begins u u u ..: behind its first u, it begins as it does at the front.
 use mathlib.Core.List.{List, [], append-assoc, append-nil, _++_, _∷_}
 use mathlib.Core.Logic.{inl, inr, _⊎_}
 use mathlib.Core.Path.{ap, refl, subst, sym, _∙_, _≡_}
@@ -13,13 +15,9 @@ use Rattle.words.proofs.FirstDifference.{raise-symbol}
 use Rattle.words.proofs.Induction.{strong}
 use Rattle.words.proofs.Lyndon.{BySuffixes, Lyndon, join, lyndon-of, lyndon-size, suffix}
 use Rattle.words.proofs.PowerOrder.{Necklace}
+use Rattle.words.specs.Scan.{next, _▹_}
 
--- a, and b behind it
-abbrev pub snoc : List ℕ → ℕ → List ℕ
-snoc a b = a ++ (b ∷ [])
-
--- The first p symbols of a are a Lyndon word u, and a begins u u u ..: behind its first u, it begins as it does at the front.
-pub record Prenecklace (a : List ℕ) (p : ℕ) : Type 0 where
+pub record Pre (a : List ℕ) (p : ℕ) : Type 0 where
   pub u : List ℕ
   pub s : List ℕ
   pub z : List ℕ
@@ -29,26 +27,24 @@ pub record Prenecklace (a : List ℕ) (p : ℕ) : Type 0 where
   pub back : a ≡ s ++ z
 
 -- a row of one symbol
-pub pre-one : (b : ℕ) → Prenecklace (b ∷ []) 1
+pub pre-one : (b : ℕ) → Pre (b ∷ []) 1
 pre-one b = record { u = b ∷ []; s = []; z = b ∷ []; lyn = lyndon-of (b ∷ []) (omega arith) one; size = refl; front = refl; back = refl }
   where
     one : BySuffixes (b ∷ [])
     one a x c y e = absurd (omega (arith, simp length-append at (ap length e)))
 
 -- a Lyndon word
-pub pre-lyndon : {a : List ℕ} → Lyndon a → Prenecklace a (length a)
+pub pre-lyndon : {a : List ℕ} → Lyndon a → Pre a (length a)
 pre-lyndon {a} l = record { u = a; s = []; z = a; lyn = l; size = refl; front = sym (append-nil a); back = refl }
 
 -- ---- the symbol that goes on with the period
 
-abbrev pub next : ℕ → List ℕ → ℕ
-next p a = getD a (length a - p) 0
+pub record Next {a : List ℕ} {p : ℕ} (q : Pre a p) : Type 0 where
+  pub rest : List ℕ
+  pub is : q .z ≡ next p a ∷ rest
 
-record Next {a : List ℕ} {p : ℕ} (q : Prenecklace a p) : Type 0 where
-  rest : List ℕ
-  is : q .z ≡ next p a ∷ rest
-
-next-is : {a : List ℕ} {p : ℕ} (q : Prenecklace a p) → Next q
+pub next-is : {a : List ℕ} {p : ℕ} (q : Pre a p) → Next q
+unfolding next
 next-is {a} {p} q = go (q .z) refl
   where
     same : length (q .z) ≡ p
@@ -63,17 +59,17 @@ next-is {a} {p} q = go (q .z) refl
         let at : getD a (length a - p) 0 ≡ c = ap (λ r. getD r (length a - p) 0) (q .back ∙ ap (λ r. q .s ++ r) e) ∙ getD-at (q .s) c z 0 (length a - p) place in
         record { rest = z; is = e ∙ ap (λ r. r ∷ z) (sym at) }
 
--- ---- the period goes on
+-- ---- P1: the period goes on
 
-pub goes-on : {a : List ℕ} {p : ℕ} → Prenecklace a p → Prenecklace (snoc a (next p a)) p
+pub goes-on : {a : List ℕ} {p : ℕ} → Pre a p → Pre (a ▹ next p a) p
 goes-on {a} {p} q = record {
   u = q .u;
-  s = snoc (q .s) c;
-  z = snoc (n .rest) c;
+  s = q .s ▹ c;
+  z = n .rest ▹ c;
   lyn = q .lyn;
   size = q .size;
-  front = ap (λ r. snoc r c) (q .front) ∙ append-assoc (q .u) (q .s) (c ∷ []);
-  back = ap (λ r. snoc r c) (q .back ∙ ap (λ r. q .s ++ r) (n .is)) ∙ simp append-assoc;
+  front = ap (λ r. r ▹ c) (q .front) ∙ append-assoc (q .u) (q .s) (c ∷ []);
+  back = ap (λ r. r ▹ c) (q .back ∙ ap (λ r. q .s ++ r) (n .is)) ∙ simp append-assoc;
 }
   where
     c : ℕ
@@ -82,13 +78,13 @@ goes-on {a} {p} q = record {
     n : Next q
     n = next-is q
 
--- ---- a higher symbol makes a Lyndon word
+-- ---- P2: a higher symbol makes a Lyndon word
 
 -- a beginning of a Lyndon word, and then a higher symbol
-raised : {u : List ℕ} → Lyndon u → (v : List ℕ) (c : ℕ) (z : List ℕ) → u ≡ v ++ (c ∷ z) → (b : ℕ) → c < b → Lyndon (snoc v b)
-raised {u} l v c z e b h = lyndon-of (snoc v b) (simp length-append (omega arith)) least
+pub raised : {u : List ℕ} → Lyndon u → (v : List ℕ) (c : ℕ) (z : List ℕ) → u ≡ v ++ (c ∷ z) → (b : ℕ) → c < b → Lyndon (v ▹ b)
+raised {u} l v c z e b h = lyndon-of (v ▹ b) (simp length-append (omega arith)) least
   where
-    least : BySuffixes (snoc v b)
+    least : BySuffixes (v ▹ b)
     least a x d y f =
         let k = cut (a ∷ x) (d ∷ y) v (b ∷ []) (sym f) (omega (arith, simp length-append at (ap length f))) in
         let whole : u ≡ (a ∷ x) ++ (k .r ++ (c ∷ z)) = e ∙ ap (λ r. r ++ (c ∷ z)) (k .left) ∙ append-assoc (a ∷ x) (k .r) (c ∷ z) in
@@ -98,7 +94,7 @@ raised {u} l v c z e b h = lyndon-of (snoc v b) (simp length-append (omega arith
 -- behind a Lyndon word u: a beginning of u u u .., and then a higher symbol, is a Lyndon word above u
 module _ (u : List ℕ) (l : Lyndon u) (b : ℕ) where
   abbrev Above : List ℕ → Type 0
-  Above s = Lyndon (snoc s b) × (u ≺ snoc s b)
+  Above s = Lyndon (s ▹ b) × (u ≺ (s ▹ b))
 
   -- it is shorter than u
   above-short : (s : List ℕ) (c : ℕ) (z r : List ℕ) → u ≡ s ++ r → (c ∷ z) ≡ r ++ s → length s < length u → c < b → Above s
@@ -106,7 +102,7 @@ module _ (u : List ℕ) (l : Lyndon u) (b : ℕ) where
   above-short s c z (d ∷ r) e f h k =
       let same : c ≡ d = cc in
       let m : d < b = omega arith in
-      (raised l s d r e b m, subst (λ w. w ≺ snoc s b) (sym e) (≺-under s (here m)))
+      (raised l s d r e b m, subst (λ w. w ≺ (s ▹ b)) (sym e) (≺-under s (here m)))
 
   above : (s z : List ℕ) (c : ℕ) → u ++ s ≡ s ++ (c ∷ z) → c < b → Above s
   above s z c e k = strong P step (length s) s refl e
@@ -121,11 +117,11 @@ module _ (u : List ℕ) (l : Lyndon u) (b : ℕ) where
           go (inl h) =
               let t = cut u s s (c ∷ z) e h in
               let i = ih (length (t .r)) (omega (arith, simp length-append at (ap length (t .left)), lyndon-size l)) (t .r) refl (sym (t .left) ∙ t .right) in
-              let same : u ++ snoc (t .r) b ≡ snoc s b = sym (append-assoc u (t .r) (b ∷ [])) ∙ ap (λ w. snoc w b) (sym (t .left)) in
-              (subst Lyndon same (join l (i .0) (i .1)), subst (λ w. u ≺ w) same (≺-append u (snoc (t .r) b) (simp length-append (omega arith))))
+              let same : u ++ (t .r ▹ b) ≡ s ▹ b = sym (append-assoc u (t .r) (b ∷ [])) ∙ ap (λ w. w ▹ b) (sym (t .left)) in
+              (subst Lyndon same (join l (i .0) (i .1)), subst (λ w. u ≺ w) same (≺-append u (t .r ▹ b) (simp length-append (omega arith))))
           go (inr h) = let t = cut s (c ∷ z) u s (sym e) (omega arith) in above-short s c z (t .r) (t .left) (t .right) h k
 
-pub leaves : {a : List ℕ} {p : ℕ} → Prenecklace a p → (b : ℕ) → next p a < b → Lyndon (snoc a b)
+pub leaves : {a : List ℕ} {p : ℕ} → Pre a p → (b : ℕ) → next p a < b → Lyndon (a ▹ b)
 leaves {a} {p} q b h = subst Lyndon same (join (q .lyn) (i .0) (i .1))
   where
     n : Next q
@@ -134,12 +130,12 @@ leaves {a} {p} q b h = subst Lyndon same (join (q .lyn) (i .0) (i .1))
     i : Above (q .u) (q .lyn) b (q .s)
     i = above (q .u) (q .lyn) b (q .s) (n .rest) (next p a) (sym (q .front) ∙ q .back ∙ ap (λ r. q .s ++ r) (n .is)) h
 
-    same : q .u ++ snoc (q .s) b ≡ snoc a b
-    same = sym (append-assoc (q .u) (q .s) (b ∷ [])) ∙ ap (λ r. snoc r b) (sym (q .front))
+    same : q .u ++ (q .s ▹ b) ≡ a ▹ b
+    same = sym (append-assoc (q .u) (q .s) (b ∷ [])) ∙ ap (λ r. r ▹ b) (sym (q .front))
 
--- ---- a lower symbol begins no necklace
+-- ---- P3: a lower symbol begins no necklace
 
-pub falls : {a : List ℕ} {p : ℕ} → Prenecklace a p → (b : ℕ) → b < next p a → (r : List ℕ) → Necklace (a ++ (b ∷ r)) → ⊥
+pub falls : {a : List ℕ} {p : ℕ} → Pre a p → (b : ℕ) → b < next p a → (r : List ℕ) → Necklace (a ++ (b ∷ r)) → ⊥
 falls {a} {p} q b h r s = not-both (here h) (≼-strip (q .s) (subst (λ w. w ≼ (q .s ++ (b ∷ (r ++ q .u)))) whole round))
   where
     n : Next q

@@ -1,0 +1,3 @@
+-- The prefix question, and what its inner functions compute.
+pub mod Question
+pub mod Search

@@ -1,0 +1,32 @@
+-- The search over the places behind a prefix. Not of document 01: what the inner functions compute.
+use mathlib.Core.Bool.{Bool, true, false, _&&_, _||_}
+use mathlib.Core.List.{List, [], _∷_, _++_}
+use Prim.Native.Nat.{ℕ, zero, suc, _-_, _%_, _≤_}
+use lib.ListN.{length, getD}
+use lib.Dec.{eqb, leb}
+use Rattle.words.specs.Order.{le}
+use Rattle.words.specs.Symbols.{sum}
+use Rattle.words.specs.Scan.{_▹_, next, Scan, barred, periodic, scan}
+use Rattle.density.specs.Balanced.{balancedFrom, balanced}
+
+-- each symbol is 0 or 1
+abbrev pub Symbols : List ℕ → Type 0
+Symbols a = (i : ℕ) → getD a i 0 ≤ 1
+
+-- the Lyndon word g begins a necklace of density d with m more symbols: the largest necklace of those m symbols is not below g
+unfoldable pub fits : ℕ → ℕ → List ℕ → Bool
+fits d zero g = eqb (sum g) d
+fits d (suc m) g = leb (sum g) d && (leb (d - sum g) (suc m) && le g (balanced (suc m) (d - sum g)))
+
+-- a has period p, and m symbols are to come. They go on with the period, to a power of the Lyndon word, or leave it upwards.
+unfoldable pub continues : ℕ → ℕ → ℕ → List ℕ → Bool
+continues d p zero a = eqb (length a % p) 0 && eqb (sum a) d
+continues d p (suc m) a = eqb (next p a) 0 && fits d m (a ▹ 1) || continues d p m (a ▹ next p a)
+
+abbrev pub asksScanned : ℕ → ℕ → List ℕ → Scan → Bool
+asksScanned n d a barred = false
+asksScanned n d a (periodic p) = continues d p (n - length a) a
+
+unfoldable pub asks : ℕ → ℕ → List ℕ → Bool
+asks n d [] = true
+asks n d (b ∷ bs) = asksScanned n d (b ∷ bs) (scan (b ∷ bs))

@@ -1,0 +1,153 @@
+// The question on input that is already checked, in about n steps.
+ghost use mathlib.Core.Path.{_≡_};
+ghost use mathlib.Core.Bool.{true, false};
+ghost use Prim.Native.Nat.{_-_, _≤_, _<_};
+ghost use lib.ListN.{length, take};
+ghost use Rattle.words.specs.Symbols.{sum};
+ghost use Rattle.words.specs.Scan.{Leading};
+ghost use Rattle.density.specs.Necklaces.{begins};
+ghost use Rattle.prefix.specs.Search.{Symbols, fits, continues};
+
+// Whether the Lyndon word g, of density h, begins a necklace of density d with m more symbols. g begins with z zeros and a 1.
+// The largest necklace of those symbols is compared with g: its first 1 by a product, the symbols behind it from an error term.
+fn goes_on(g: &[u8], m: usize, d: usize, h: usize, z: usize) -> bool
+    requires { ⌜ (m ≤ 64) × (h ≡ sum (now g)) × (z < length (now g)) × (length (now g) ≤ 64) × Leading (now g) z × Symbols (now g) ⌝ }
+    ensures { λ r. ⌜ r ≡ fits d m (now (g .entry)) ⌝ }
+{
+    if d < h {
+        return false;
+    }
+    let e = d - h;
+    if m < e {
+        return false;
+    }
+    if m == 0 {
+        return true;
+    }
+    if m <= z * e {
+        return true;
+    }
+    let first = (z + 1) * e;
+    if first < m {
+        return false;
+    }
+    let mut error: usize = first - m;
+    let mut k: usize = z + 1;
+    while k < g.len() {
+        if m <= k {
+            return false;
+        }
+        let mut s: u8 = 0;
+        error += e;
+        if m <= error {
+            error -= m;
+            s = 1;
+        }
+        if g[k] < s {
+            return true;
+        }
+        if s < g[k] {
+            return false;
+        }
+        k += 1;
+    }
+    true
+}
+
+// Whether the first t symbols of x, of period p and density h, begin a necklace of n symbols and density d.
+// They begin with z zeros. They go on with the period, place by place, or leave it upwards.
+fn search_from(
+    mut x: [u8; 64],
+    t: usize,
+    n: usize,
+    d: usize,
+    p: usize,
+    h: usize,
+    mut z: usize,
+) -> bool
+    requires { ⌜ (0 < p) × (p ≤ t) × (t ≤ n) × (n ≤ 64) × (h ≡ sum (take t x)) × (h ≤ t) × Symbols x × Leading (take t x) z ⌝ }
+    ensures { λ r. ⌜ r ≡ continues d p (n - t) (take t x) ⌝ }
+{
+    let mut i = t;
+    let mut ones = h;
+    while i < n {
+        let c = x[i - p];
+        x[i] = 1;
+        if c == 0 {
+            if goes_on(&x[..i + 1], n - (i + 1), d, ones + 1, z) {
+                return true;
+            }
+            if z == i {
+                z = i + 1;
+            }
+        }
+        x[i] = c;
+        ones += c as usize;
+        i += 1;
+    }
+    if n % p == 0 {
+        return ones == d;
+    }
+    false
+}
+
+// How many ones a has. A sum of bytes: the loop runs on vectors.
+fn count(a: &[u8]) -> usize
+    requires { ⌜ (length (now a) ≤ 64) × Symbols (now a) ⌝ }
+    ensures { λ r. ⌜ (r ≡ sum (now (a .entry))) × (r ≤ length (now (a .entry))) ⌝ }
+{
+    let mut h: u8 = 0;
+    let mut i: usize = 0;
+    while i < a.len() {
+        h += a[i];
+        i += 1;
+    }
+    h as usize
+}
+
+// Whether the counts rule a prefix out, which has h ones and begins with z zeros: too many or too few ones are to come,
+// or too few for so many places, since no run of zeros is longer than the first.
+fn ruled_out(n: usize, d: usize, prefix: &[u8], h: usize, z: usize) -> bool
+    requires { ⌜ (n ≤ 64) × (d ≤ n) × (length (now prefix) ≤ n) × (h ≡ sum (now prefix)) × Leading (now prefix) z × Symbols (now prefix) ⌝ }
+    ensures { λ r. ⌜ (r ≡ true → begins n d (now (prefix .entry)) ≡ false) ⌝ }
+{
+    if d < h {
+        return true;
+    }
+    let e = d - h;
+    let m = n - prefix.len();
+    if m < e {
+        return true;
+    }
+    if z < prefix.len() {
+        return (z + 1) * e < m;
+    }
+    false
+}
+
+// Whether some necklace of n symbols and density d begins with a prefix.
+pub fn begins_necklace(n: usize, d: usize, prefix: &[u8]) -> bool
+    requires { ⌜ (n ≤ 64) × (d ≤ n) × (length (now prefix) ≤ n) × Symbols (now prefix) × (0 < n) ⌝ }
+    ensures { λ r. ⌜ r ≡ begins n d (now (prefix .entry)) ⌝ }
+{
+    let t = prefix.len();
+    if t == 0 {
+        return true;
+    }
+    let h = count(prefix);
+    let z = words::inner::leading_zeros(prefix);
+    if ruled_out(n, d, prefix, h, z) {
+        return false;
+    }
+    let p = words::inner::prefix_period(prefix, z);
+    if p == 0 {
+        return false;
+    }
+    let mut x = [0u8; 64];
+    let mut i: usize = 0;
+    while i < prefix.len() {
+        x[i] = prefix[i];
+        i += 1;
+    }
+    search_from(x, t, n, d, p, h, z)
+}

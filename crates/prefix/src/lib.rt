@@ -1,0 +1,33 @@
+// The prefix question: does some necklace of length n and density d begin with a given prefix?
+pub mod inner;
+
+ghost use mathlib.Core.Path.{_≡_};
+ghost use Rattle.prefix.specs.Question.{questionVerdict, questionAnswer};
+use refusal::Refusal;
+
+// Yes or no, or a refusal.
+pub enum PrefixAnswer {
+    Answered(bool),
+    Refused(Refusal),
+}
+
+// The prefix question.
+pub fn ask(n: usize, d: usize, prefix: &[u8]) -> PrefixAnswer
+    ensures { λ r. ⌜ r ≡ questionAnswer (questionVerdict n d (now (prefix .entry))) n d (now (prefix .entry)) ⌝ }
+{
+    if !refusal::are_stations(n) {
+        return PrefixAnswer::Refused(Refusal::Stations);
+    }
+    if n < d {
+        return PrefixAnswer::Refused(Refusal::Holes);
+    }
+    if n < prefix.len() {
+        return PrefixAnswer::Refused(Refusal::Prefix);
+    }
+    let wrong = words::first_wrong(prefix, 2);
+    if wrong != 0 {
+        return PrefixAnswer::Refused(Refusal::Symbol(wrong));
+    }
+    let yes = inner::begins_necklace(n, d, prefix);
+    PrefixAnswer::Answered(yes)
+}

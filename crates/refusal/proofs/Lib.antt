@@ -1,0 +1,2 @@
+-- how many stations a row may have
+pub mod Stations

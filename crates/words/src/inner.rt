@@ -1,0 +1,44 @@
+// Helpers for other crates, over rows of any alphabet.
+ghost use mathlib.Core.Path.{_≡_};
+ghost use Prim.Native.Nat.{_≤_, _<_};
+ghost use lib.ListN.{length};
+ghost use Rattle.words.specs.Scan.{Leading, coded, scan};
+
+// With how many zeros a row begins.
+pub fn leading_zeros(a: &[u8]) -> usize
+    ensures { λ r. ⌜ Leading (now (a .entry)) r ⌝ }
+{
+    let mut z: usize = 0;
+    while z < a.len() {
+        if a[z] != 0 {
+            return z;
+        }
+        z += 1;
+    }
+    z
+}
+
+// The period of a row that begins with z zeros: its first symbols, of that number, are a Lyndon word, and it repeats them.
+// 0 if it begins no necklace.
+pub fn prefix_period(a: &[u8], z: usize) -> usize
+    requires { ⌜ (0 < length (now a)) × Leading (now a) z ⌝ }
+    ensures { λ r. ⌜ (coded r ≡ scan (now (a .entry))) × (r ≤ length (now (a .entry))) ⌝ }
+{
+    let mut i: usize = 1;
+    let mut j: usize = 0;
+    if z < a.len() {
+        i = z + 1;
+    }
+    while i < a.len() {
+        if a[i] == a[j] {
+            j += 1;
+        } else {
+            if a[i] < a[j] {
+                return 0;
+            }
+            j = 0;
+        }
+        i += 1;
+    }
+    i - j
+}
