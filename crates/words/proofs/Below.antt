@@ -119,6 +119,25 @@ cmp-is {a} {b} m = go m (cmp-means a b)
     go (is-gt h) (is-eq e) = absurd (≺-irrefl (rw e at h))
     go (is-gt h) (is-gt k) = refl
 
+-- and what an answer means
+means-lt : {a b : List ℕ} → Means _≺_ a b Ordering·lt → a ≺ b
+means-lt (is-lt h) = h
+
+means-eq : {a b : List ℕ} → Means _≺_ a b Ordering·eq → a ≡ b
+means-eq (is-eq e) = e
+
+means-gt : {a b : List ℕ} → Means _≺_ a b Ordering·gt → b ≺ a
+means-gt (is-gt h) = h
+
+pub cmp-lt : (a b : List ℕ) → cmp a b ≡ Ordering·lt → a ≺ b
+cmp-lt a b e = means-lt (rw e at (cmp-means a b))
+
+pub cmp-eq : (a b : List ℕ) → cmp a b ≡ Ordering·eq → a ≡ b
+cmp-eq a b e = means-eq (rw e at (cmp-means a b))
+
+pub cmp-gt : (a b : List ℕ) → cmp a b ≡ Ordering·gt → b ≺ a
+cmp-gt a b e = means-gt (rw e at (cmp-means a b))
+
 pub compare-self : (x : ℕ) → compare x x ≡ Ordering·eq
 compare-self x = go (compare-means x x)
   where

@@ -2,10 +2,14 @@
 use mathlib.Core.Bool.{Bool, and-eq-true-iff, cond, false, true, true≢false, _&&_}
 use mathlib.Core.Logic.{inl, inr, _⊎_}
 use mathlib.Core.Path.{refl, _≡_}
-use Prim.Native.Nat.{suc, zero, ℕ, _+_, _<_, _≤_}
+use Prim.Native.Nat.{pred, suc, zero, ℕ, _+_, _<_, _≤_}
 use native.Mathlib.Nat.{eq-or-lt-of-le, le-of-suc-le-suc, le-refl, not-suc-le-zero}
 use native.Mathlib.Omega.{arith}
 use Rattle.words.specs.Tests.{allBelow, firstFrom}
+
+pub pred-size : (n : ℕ) → 0 < n → 1 + pred n ≡ n
+pred-size zero h = absurd (omega arith)
+pred-size (suc n) h = omega arith
 
 pub allBelow→ : (n : ℕ) (f : ℕ → Bool) → allBelow n f ≡ true → (j : ℕ) → j < n → f j ≡ true
 unfolding allBelow

@@ -17,6 +17,10 @@ pub mod Power
 pub mod PowerOrder
 pub mod Rotations
 pub mod Root
+-- a rotation of a rotation, the least rotation, the period
+pub mod RotationAgain
+pub mod LeastRotation
+pub mod Periods
 -- rows that begin a necklace: their period, one pass over them, what may follow a Lyndon word
 pub mod Prefixes
 pub mod ScanMeaning

@@ -8,7 +8,8 @@ use lib.ListN.{drop, drop-of-length-le, getD, length}
 use lib.Seq.{drop-cons}
 use Rattle.words.proofs.AtMost.{equal, lower, _≼_}
 use Rattle.words.proofs.Below.{Means, cmp-is, cmp-means, compare-self, here, is-eq, is-gt, is-lt, short, _≺_}
-use Rattle.words.specs.Order.{cmp, isLt, le, lt, same}
+use Rattle.words.specs.Order.{cmp, isLt, le, lt, orderOf, same}
+use Rattle.words.specs.declared.Order.the-variants.{Equal, Higher, Lower}
 
 pub lt→ : (a b : List ℕ) → lt a b ≡ true → a ≺ b
 unfolding lt
@@ -62,6 +63,23 @@ unfolding same
 pub not-same : (a b : List ℕ) → b ≺ a → same a b ≡ false
 unfolding same
 not-same a b h = rw (cmp-is (is-gt h))
+
+-- ---- the answers as the code names them
+
+pub order-lower : (o : Ordering) → orderOf o ≡ Lower → o ≡ Ordering·lt
+order-lower Ordering·lt e = refl
+order-lower Ordering·eq e = cc
+order-lower Ordering·gt e = cc
+
+pub order-equal : (o : Ordering) → orderOf o ≡ Equal → o ≡ Ordering·eq
+order-equal Ordering·lt e = cc
+order-equal Ordering·eq e = refl
+order-equal Ordering·gt e = cc
+
+pub order-higher : (o : Ordering) → orderOf o ≡ Higher → o ≡ Ordering·gt
+order-higher Ordering·lt e = cc
+order-higher Ordering·eq e = cc
+order-higher Ordering·gt e = refl
 
 -- ---- the comparison of what is left of two rows, from a place of each
 

@@ -12,7 +12,7 @@ use lib.ListN.{drop, getD, length, length-append, length-drop, take}
 use lib.Seq.{drop-cons, length-take-le}
 use Rattle.words.proofs.AtMost.{equal, lower, not-both, ≺-≼-trans, ≼-append, ≼-or, _≼_}
 use Rattle.words.proofs.Below.{_≺_}
-use Rattle.words.proofs.Bounded.{fails-at, first-is}
+use Rattle.words.proofs.Bounded.{fails-at, first-is, pred-size}
 use Rattle.words.proofs.Induction.{strong}
 use Rattle.words.proofs.Lyndon.{Lyndon, lyndon-size, suffix}
 use Rattle.words.proofs.OrderTests.{not-same, →lt, →same}
@@ -171,10 +171,6 @@ module _ (u : List ℕ) (l : Lyndon u) (k : ℕ) where
       first-is (pred (length (power (suc k) u))) 1 (length u) (λ p. same (rotation p (power (suc k) u)) (power (suc k) u)) p (omega (arith, pred-size (length (power (suc k) u)) (omega arith)))
       (λ i h q. not-same _ _ (root-above i h q))
       (λ h. →same _ _ root-back)
-    where
-      pred-size : (n : ℕ) → 0 < n → 1 + pred n ≡ n
-      pred-size zero h = absurd (omega arith)
-      pred-size (suc n) h = omega arith
 
 -- L6, whole: w is the power of a Lyndon word whose length is w's period
 pub root-of : (w : List ℕ) (r : Root w) → period w ≡ length (r .u)

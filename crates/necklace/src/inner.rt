@@ -1,0 +1,94 @@
+// Helpers over rows that are already checked, of any alphabet.
+use words::Order;
+ghost use mathlib.Core.Path.{_≡_};
+ghost use mathlib.Core.List.{_++_};
+ghost use Prim.Native.Nat.{_<_, _≤_};
+ghost use lib.ListN.{length, drop, getD};
+ghost use Rattle.words.specs.Rotation.{leastIndex, period, rotation};
+ghost use Rattle.necklace.specs.Class.{necklacePeriod};
+
+// The number of a row's least rotation, and the row's period.
+pub struct Least {
+    pub index: usize,
+    pub period: usize,
+}
+
+// The symbol at place i of the rotation by j.
+pub fn symbol(row: &[u8], j: usize, i: usize) -> u8
+    requires { ⌜ (j ≤ length (now row)) × (i < length (now row)) ⌝ }
+    ensures { λ r. ⌜ r ≡ getD (rotation j (now (row .entry))) i 0 ⌝ }
+{
+    let tail = row.len() - j;
+    if i < tail { row[j + i] } else { row[i - tail] }
+}
+
+// The least rotation: the rotations in their order against the least so far, which lies at b.
+pub fn least_rotation(row: &[u8]) -> Least
+    requires { ⌜ 0 < length (now row) ⌝ }
+    ensures { λ r. ⌜ (r .index ≡ leastIndex (now (row .entry))) × (r .period ≡ period (now (row .entry))) ⌝ }
+{
+    let n = row.len();
+    let mut b: usize = 0;
+    'rotations: for j in 1..n {
+        // the tail of the row, from place j on
+        let order = words::compare(&row[j..], &row[b..b + (n - j)]);
+        match order {
+            Order::Higher => {
+                continue 'rotations;
+            }
+            Order::Lower => {
+                b = j;
+                continue 'rotations;
+            }
+            Order::Equal => {}
+        }
+        // its head
+        for i in 0..j {
+            let x = row[i];
+            let y = symbol(row, b, n - j + i);
+            if y < x {
+                continue 'rotations;
+            }
+            if x < y {
+                b = j;
+                continue 'rotations;
+            }
+        }
+        // the least rotation again: from here on all of them are rotations seen before
+        return Least {
+            index: b,
+            period: j - b,
+        };
+    }
+    Least {
+        index: b,
+        period: n,
+    }
+}
+
+// The period of a necklace, and 0 for a row that is none, in one pass.
+pub fn necklace_period(row: &[u8]) -> usize
+    requires { ⌜ 0 < length (now row) ⌝ }
+    ensures { λ r. ⌜ r ≡ necklacePeriod (now (row .entry)) ⌝ }
+{
+    let zeros = words::inner::leading_zeros(row);
+    let p = words::inner::prefix_period(row, zeros);
+    if p == 0 {
+        return 0;
+    }
+    if row.len() % p == 0 { p } else { 0 }
+}
+
+// Writes the rotation by j to the front of `out`.
+pub fn write_rotation(row: &[u8], j: usize, out: &mut [u8])
+    requires { ⌜ (j ≤ length (now row)) × (length (now row) ≤ length (now out)) ⌝ }
+    ensures { λ r. ⌜ now (out .exit) ≡ rotation j (now (row .entry)) ++ drop (length (now (row .entry))) (now (out .entry)) ⌝ }
+{
+    let n = row.len();
+    let mut at: usize = 0;
+    while at < n {
+        let x = symbol(row, j, at);
+        out[at] = x;
+        at += 1;
+    }
+}
