@@ -64,9 +64,6 @@ small-rest n d l e = let z : 0 < n - d = omega (arith, lt-of-le-ne l e) in (z, m
 many-mul-if2 : (t : ℕ) → many-holes-lts.Need-mul-if2 (many-claims t) (many-holes-at t) many-holes.Post
 many-mul-if2 t c = omega (arith, small-rest (c .before .args .n) (c .before .args .d) (c .before .pre .1 .1 .0) (c .if1 .left))
 
-many-few-requires : (t : ℕ) → many-holes-lts.Need-few-holes-requires (many-claims t) (many-holes-at t) many-holes.Post
-many-few-requires t c κs = search needs
-
 many-many-requires : (t : ℕ) → many-holes-lts.Need-many-holes-requires (many-claims t) (many-holes-at t) many-holes.Post
 many-many-requires t c κs = omega (arith, small-rest (c .before .before .args .n) (c .before .before .args .d) (c .before .before .pre .1 .1 .0) (c .before .if1 .left))
 
@@ -91,7 +88,7 @@ pub +few-holes+many-holes-spec : {M : Type 1} → statement M
     (λ c. search needs)
     (λ c. search needs)
     (many-mul-if2 t)
-    (many-few-requires t)
+    (λ c κs. search needs)
     (λ c κs. search needs)
     (many-many-requires t)
     (λ c κs. search needs)
