@@ -9,3 +9,12 @@ pub mod BalancedRow
 pub mod LowRotation
 pub mod Largest
 pub mod Scaled
+-- the balanced row by blocks: the rule for few holes and the rule for many
+pub mod RowSymbols
+pub mod FewBlocks
+pub mod ManyBlocks
+pub mod TopRules
+-- what the code holds while it writes a row
+pub mod FilledRow
+-- the verdict on the question of the top ring
+pub mod TopVerdicts

@@ -2,3 +2,4 @@
 pub mod Density
 pub mod Necklaces
 pub mod Balanced
+pub mod Top
