@@ -1,7 +1,8 @@
 // The density of a row.
 ghost use mathlib.Core.Path.{_≡_};
-ghost use Prim.Native.Nat.{_≤_};
-ghost use lib.ListN.{length};
+ghost use Prim.Native.Nat.{ℕ, _≤_};
+ghost use lib.ListN.{length, getD};
+ghost use Rattle.words.specs.Symbols.{sum};
 ghost use Rattle.density.specs.Density.{density};
 
 // How many symbols of a row are 1.
@@ -17,4 +18,18 @@ pub fn count_ones(row: &[u8]) -> usize
         i += 1;
     }
     ones
+}
+
+// The same for a row of zeros and ones, of at most 64. A sum of bytes: the loop runs on vectors.
+pub fn sum_ones(row: &[u8]) -> usize
+    requires { ⌜ (length (now row) ≤ 64) × ((i : ℕ) → getD (now row) i 0 ≤ 1) ⌝ }
+    ensures { λ r. ⌜ (r ≡ sum (now (row .entry))) × (r ≤ length (now (row .entry))) ⌝ }
+{
+    let mut ones: u8 = 0;
+    let mut i: usize = 0;
+    while i < row.len() {
+        ones += row[i];
+        i += 1;
+    }
+    ones as usize
 }

@@ -6,6 +6,10 @@ use Prim.Native.Nat.{ℕ}
 use Rattle.words.specs.Rotation.{leastRotation, leastIndex, period}
 use Rattle.density.specs.Necklaces.{begins, largestNecklace}
 use Rattle.gaps.specs.Gaps.{gapsOfRow}
+use Rattle.walk.specs.Listing.{Said, ring, none, told}
+use Rattle.walk.specs.Moves.{rules}
+use Rattle.walk.specs.Opening.{fresh}
+use Rattle.walk.specs.Step.{walkAnswers}
 
 pub data Specimen : Type 0 where
   -- key of a row: the key, its turn and the period
@@ -16,6 +20,8 @@ pub data Specimen : Type 0 where
   top : ℕ → ℕ → List ℕ → Specimen
   -- gaps of a row
   gaps : List ℕ → List ℕ → Specimen
+  -- drawer (n, d), kind, limit: the first answer of a walk, and its trials
+  step : ℕ → ℕ → ℕ → List ℕ → Said → ℕ → Specimen
 
 -- what a specimen says
 abbrev pub Says : Specimen → Type 0
@@ -23,6 +29,7 @@ Says (key w least turn p) = (leastRotation w ≡ least) × (leastIndex w ≡ tur
 Says (prefix n d p answer) = begins n d p ≡ answer
 Says (top n d w) = largestNecklace n d ≡ w
 Says (gaps w list) = gapsOfRow w ≡ list
+Says (step n d kind limit said trials) = walkAnswers rules (fresh rules n d kind limit) (100 ∷ []) ≡ told said trials ∷ []
 
 -- what all of a list say
 abbrev pub Say : List Specimen → Type 0
@@ -38,5 +45,11 @@ starred =
     ∷ prefix 4 3 (0 ∷ []) true
     ∷ top 8 3 (0 ∷ 0 ∷ 1 ∷ 0 ∷ 0 ∷ 1 ∷ 0 ∷ 1 ∷ [])
     ∷ top 8 5 (0 ∷ 1 ∷ 0 ∷ 1 ∷ 1 ∷ 0 ∷ 1 ∷ 1 ∷ [])
+    ∷ step 8 3 1 (0 ∷ 0 ∷ 0 ∷ 1 ∷ 1 ∷ 0 ∷ 0 ∷ 0 ∷ []) (ring (0 ∷ 0 ∷ 0 ∷ 1 ∷ 0 ∷ 1 ∷ 0 ∷ 1 ∷ [])) 4
+    ∷ step 8 3 1 (0 ∷ 0 ∷ 1 ∷ 0 ∷ 0 ∷ 1 ∷ 0 ∷ 0 ∷ []) (ring (0 ∷ 0 ∷ 0 ∷ 1 ∷ 1 ∷ 0 ∷ 0 ∷ 1 ∷ [])) 7
+    ∷ step 8 3 1 (0 ∷ 0 ∷ 0 ∷ 0 ∷ 0 ∷ 1 ∷ 1 ∷ 0 ∷ []) none 2
+    ∷ step 4 2 2 (0 ∷ 1 ∷ 0 ∷ 1 ∷ []) (ring (0 ∷ 0 ∷ 1 ∷ 1 ∷ [])) 3
+    ∷ step 2 0 2 (1 ∷ 1 ∷ []) none 3
+    ∷ step 1 0 2 (0 ∷ []) (ring (0 ∷ [])) 0
     ∷ gaps (0 ∷ 0 ∷ 1 ∷ 0 ∷ 0 ∷ 1 ∷ 0 ∷ 1 ∷ []) (2 ∷ 2 ∷ 1 ∷ [])
     ∷ []

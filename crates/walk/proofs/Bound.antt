@@ -1,18 +1,30 @@
--- Before lines are struck out, a price is at most 2 n - 1.
-use mathlib.Core.Bool.{Bool, cond, false, true}
-use mathlib.Core.List.{List, List·Memᴰ, List·Memᴰ·head, List·Memᴰ·tail, [], _∷_}
-use mathlib.Core.Path.{refl, sym, _∙_, _≡_}
+-- Before lines are struck out, a price is at most 2 n - 1. With no two neighbours struck out, it is at most twice that.
+use mathlib.Core.Bool.{Bool, cond, false, true, true≢false, _||_}
+use mathlib.Core.List.{List, List·Memᴰ, List·Memᴰ·head, List·Memᴰ·tail, [], append-assoc, _++_, _∷_}
+use mathlib.Core.Path.{ap, refl, sym, _∙_, _≡_}
 use Prim.Native.Nat.{suc, zero, ℕ, _*_, _+_, _-_, _≤_}
 use native.Mathlib.Omega.{arith}
 use lib.Dec.{eqb}
 use lib.ListN.{length}
-use Rattle.density.proofs.Members.{member→}
+use Rattle.density.proofs.Binary.{Binary}
+use Rattle.density.proofs.Members.{member→, necklaces-falling}
 use Rattle.density.specs.Density.{density}
-use Rattle.density.specs.Necklaces.{isNecklaceOf, necklaces}
-use Rattle.walk.specs.Listing.{allLines, counted, front, limitFirst, linesFrom, necklacesBelow, price}
-use Rattle.walk.specs.Totals.{AtMost, all-over, and-then}
-use Rattle.words.proofs.Lists.{keep→}
-use Rattle.words.specs.Order.{lt}
+use Rattle.density.specs.Necklaces.{isNecklaceOf, necklaces, ofKind}
+use Rattle.prefix.proofs.Neighbours.{neighbours-test}
+use Rattle.walk.proofs.Demand.{Opening}
+use Rattle.walk.proofs.Named.{Closed, all-closed, last, line, rings-all}
+use Rattle.walk.proofs.Totalled.{totals-listed}
+use Rattle.walk.specs.Listing.{Listing, allLines, counted, entry, front, limitFirst, linesFrom, listing, necklacesBelow, none, over, price, raise, refused, ring, strike, struck}
+use Rattle.walk.specs.Moves.{rules}
+use Rattle.walk.specs.Opening.{fresh}
+use Rattle.walk.specs.Step.{walkAnswers}
+use Rattle.walk.specs.Totals.{AtMost, Starts, all-over, and-then, at-once, owed, ringsOf, then, totals}
+use Rattle.words.proofs.AtMost.{lower, ≺-≼-trans}
+use Rattle.words.proofs.Falling.{Falling, falls-from, falls-none}
+use Rattle.words.proofs.Lists.{keep-all, keep→}
+use Rattle.words.proofs.OrderTests.{le→, →le}
+use Rattle.words.specs.Order.{le, lt}
+use Rattle.words.specs.Rotation.{isLyndon}
 use Rattle.words.specs.Tests.{keep}
 
 density-few : (x : List ℕ) → density x ≤ length x
@@ -59,3 +71,87 @@ prices-few n d limit s e = go (isNecklaceOf d limit)
     go : (b : Bool) → AtMost (2 * n - 1) (limitFirst b limit (keep (λ r. lt r limit) (necklaces n d)))
     go true = and-then {p = 0} (omega arith) (lines-few n s true limit _ e long)
     go false = lines-few n s false limit _ e long
+
+-- ---- striking out
+
+-- nothing is struck out where every row passes
+pub strike-nothing : (test : List ℕ → Bool) → ((r : List ℕ) → test r ≡ true) → {l : Listing} → Closed l → strike test l ≡ l
+unfolding strike
+strike-nothing test h last = refl
+strike-nothing test h (line {r = r} {p = p} c) = rw (h r, strike-nothing test h c)
+
+-- of two neighbours one passes
+abbrev pub Spaced : (List ℕ → Bool) → List (List ℕ) → Type 0
+Spaced test rows = (l : List (List ℕ)) (b a : List ℕ) (r : List (List ℕ)) → rows ≡ l ++ (b ∷ a ∷ r) → (test b || test a) ≡ true
+
+spaced-tail : (test : List ℕ → Bool) (pre : List (List ℕ)) {rows : List (List ℕ)} → Spaced test (pre ++ rows) → Spaced test rows
+spaced-tail test pre s l b a r e = s (pre ++ l) b a r (ap {B = List (List ℕ)} (λ t. pre ++ t) e ∙ sym (append-assoc pre l (b ∷ a ∷ r)))
+
+module _ (test : List ℕ → Bool) (b : ℕ) where
+  -- the first line is not struck out
+  abbrev stays : Listing → Bool
+  stays over = true
+  stays (entry (ring r) p l) = test r
+  stays (entry none p l) = true
+  stays (entry (refused c) p l) = true
+
+  -- the line after one that is struck out
+  next-stays : {r : List ℕ} {l : Listing} → Closed l → Spaced test (r ∷ ringsOf l) → test r ≡ false → stays l ≡ true
+  unfolding ringsOf
+  next-stays last s e = refl
+  next-stays {r} (line {r = q} {l = l} c) s e = rw e at (s [] r q (ringsOf l) refl)
+
+  raise-few : {p : ℕ} {l : Listing} → p ≤ b → owed l ≤ b → AtMost (b + b) l → AtMost (b + b) (raise p l)
+  raise-few {l = over} h q m = m
+  raise-few {p} {l = entry s c rest} h q (and-then u m) = and-then {p = p + c} (omega arith) m
+
+  pub strike-few : {l : Listing} → Closed l → AtMost b l → Spaced test (ringsOf l) → AtMost (b + b) (strike test l) × (stays l ≡ true → owed (strike test l) ≤ b)
+  unfolding strike ringsOf
+  strike-few (last {p = p}) (and-then h m) s = (and-then {p = p} (omega arith) all-over, λ e. h)
+  strike-few (line {r = r} {p = p} {l = l} c) (and-then h m) s = go (test r) refl (strike-few c m (spaced-tail test (r ∷ []) s))
+    where
+      go : (t : Bool) → test r ≡ t → AtMost (b + b) (strike test l) × (stays l ≡ true → owed (strike test l) ≤ b)
+          → AtMost (b + b) (struck t r p (strike test l)) × (t ≡ true → owed (struck t r p (strike test l)) ≤ b)
+      go true e ih = (and-then {p = p} (omega arith) (ih .0), λ q. h)
+      go false e ih = (raise-few h (ih .1 (next-stays c s e)) (ih .0), λ q. absurd (true≢false (sym q)))
+
+-- ---- the lines of a drawer are neighbours in it
+
+-- in a falling list the rows at or below x are its end
+pub ends-below : (x : List ℕ) {l : List (List ℕ)} → Falling l → (pre : List (List ℕ)) × (l ≡ pre ++ keep (λ r. le r x) l)
+unfolding keep
+ends-below x falls-none = ([], refl)
+ends-below x (falls-from {w = w} {l = l} h f) = go (le w x) refl (ends-below x f)
+  where
+    go : (t : Bool) → le w x ≡ t → ((pre : List (List ℕ)) × (l ≡ pre ++ keep (λ r. le r x) l)) → (pre : List (List ℕ)) × (w ∷ l ≡ pre ++ cond t (w ∷ keep (λ r. le r x) l) (keep (λ r. le r x) l))
+    go true e ih = ([], ap {B = List (List ℕ)} (λ t. w ∷ t) (sym (keep-all (λ r. le r x) l (λ v m. →le v x (lower (≺-≼-trans (h v m) (le→ w x e)))))))
+    go false e ih = (w ∷ ih .0, ap {B = List (List ℕ)} (λ t. w ∷ t) (ih .1))
+
+-- Lemma 6.1 of source document 000: of two neighbours one is without symmetry
+pub lines-spaced : (n d : ℕ) (limit : List ℕ) → length limit ≡ n → Binary limit → Spaced isLyndon (ringsOf (allLines n d limit))
+lines-spaced n d limit l b =
+    let e = ends-below limit (necklaces-falling n d) in
+    rw (rings-all n d limit l b) (spaced-tail isLyndon (e .0) (λ k y x t q. neighbours-test n d k y x t (e .1 ∙ q)))
+
+-- ---- what a ring takes
+
+-- of a beginning
+pub starts-few : {b : ℕ} {a l : Listing} → Starts a l → AtMost b l → AtMost b a
+starts-few at-once m = all-over
+starts-few (then h) (and-then q m) = and-then q (starts-few h m)
+
+module _ (n d : ℕ) (limit : List ℕ) where
+  abbrev taken : ℕ → List ℕ → Listing
+  taken kind steps = totals 0 (walkAnswers rules (fresh rules n d kind limit) steps)
+
+  -- no ring of kind 1, nor none, takes more than 2 n - 1 trials
+  pub kind-1-trials : Opening rules n d 1 limit → (steps : List ℕ) → AtMost (2 * n - 1) (taken 1 steps)
+  unfolding listing ofKind
+  kind-1-trials o steps = starts-few (totals-listed rules n d 1 limit o steps) (rw (strike-nothing (ofKind 1) (λ r. refl) (all-closed n d limit)) (prices-few n d limit (o .stations) (o .long)))
+
+  -- no ring of kind 2, nor none, takes more than 4 n - 2
+  pub kind-2-trials : Opening rules n d 2 limit → (steps : List ℕ) → AtMost (4 * n - 2) (taken 2 steps)
+  unfolding listing ofKind
+  kind-2-trials o steps =
+      let m : (2 * n - 1) + (2 * n - 1) ≡ 4 * n - 2 = omega (arith, o .stations) in
+      starts-few (totals-listed rules n d 2 limit o steps) (rw m at (strike-few isLyndon (2 * n - 1) (all-closed n d limit) (prices-few n d limit (o .stations) (o .long)) (lines-spaced n d limit (o .long) (o .binary)) .0))

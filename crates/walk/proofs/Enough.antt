@@ -11,7 +11,7 @@ use Rattle.density.specs.Density.{allRows}
 use Rattle.density.specs.Necklaces.{isNecklaceOf, necklaces}
 use Rattle.walk.proofs.Good.{Good, GoodAt}
 use Rattle.walk.proofs.Rounds.{necklacesUpTo}
-use Rattle.walk.proofs.Stands.{phase, rowsAt, size, sizeAt}
+use Rattle.walk.proofs.Stands.{movesAt, rowsAt, size, sizeAt}
 use Rattle.walk.specs.Listing.{necklacesBelow}
 use Rattle.walk.specs.Moves.{Rules}
 use Rattle.walk.specs.Step.{enough}
@@ -34,13 +34,13 @@ rows-few (Up (suc i)) n d row = filtered n d _
 rows-few Given n d row = filtered n d _
 rows-few Ended n d row = omega arith
 
-phase-few : (s : Standing) (n d : ℕ) (row : List ℕ) → GoodAt s n d row → phase n s ≤ 4 * n + 7
-phase-few Limit n d row g = omega arith
-phase-few (Down p) n d row g = omega arith
-phase-few (Up zero) n d row g = absurd g
-phase-few (Up (suc i)) n d row g = omega arith
-phase-few Given n d row g = omega arith
-phase-few Ended n d row g = absurd g
+moves-few : (s : Standing) (n d : ℕ) (row : List ℕ) → GoodAt s n d row → movesAt n s ≤ 4 * n + 7
+moves-few Limit n d row g = omega arith
+moves-few (Down p) n d row g = omega arith
+moves-few (Up zero) n d row g = absurd g
+moves-few (Up (suc i)) n d row g = omega arith
+moves-few Given n d row g = omega arith
+moves-few Ended n d row g = absurd g
 
 bound : (l m c a : ℕ) → l ≤ m → a < c + c → l * c + a < (m + 2) * c
 bound l m c a h k =
@@ -51,8 +51,8 @@ bound l m c a h k =
 pub moves-enough : {R : Rules} {w : Walk} → Good R w → size w < enough (w .n)
 unfolding size sizeAt enough
 moves-enough {w = w} g =
-    bound (length (rowsAt (w .at) (w .n) (w .d) (w .row))) (2 ^ w .n) (2 * w .n + 4) (phase (w .n) (w .at))
-    (rows-few (w .at) (w .n) (w .d) (w .row)) (omega (arith, phase-few (w .at) (w .n) (w .d) (w .row) (g .placed)))
+    bound (length (rowsAt (w .at) (w .n) (w .d) (w .row))) (2 ^ w .n) (2 * w .n + 4) (movesAt (w .n) (w .at))
+    (rows-few (w .at) (w .n) (w .d) (w .row)) (omega (arith, moves-few (w .at) (w .n) (w .d) (w .row) (g .placed)))
 
 pub enough-some : (n : ℕ) → 0 < enough n
 unfolding enough

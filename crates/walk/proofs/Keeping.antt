@@ -20,7 +20,7 @@ use Rattle.walk.proofs.Events.{down-free, down-no-lines, down-no-rows, 
 use Rattle.walk.proofs.Good.{Fit, Good, GoodAt, Sound, down-fit, ended-fit, given-fit, sound-fit, sound-set, symbol, up-fit}
 use Rattle.walk.proofs.Rounds.{other-way}
 use Rattle.walk.proofs.Runs.{Keeps, keeps-answer, keeps-free, keeps-trial}
-use Rattle.walk.proofs.Stands.{linesAt, phase, rowsAt, size, sizeAt, stands}
+use Rattle.walk.proofs.Stands.{linesAt, movesAt, rowsAt, size, sizeAt, stands}
 use Rattle.walk.proofs.Strikes.{strike-kept, strike-out, strike-raise}
 use Rattle.walk.specs.Fit.{fitAt}
 use Rattle.walk.specs.Listing.{raise, strike}
@@ -30,7 +30,7 @@ use Rattle.walk.specs.declared.Standing.{Standing}
 use Rattle.walk.specs.declared.Standing.the-variants.{Down, Ended, Given, Limit, Up}
 use Rattle.walk.specs.declared.Walk.{Walk}
 
-pub smaller : (n d : ℕ) (s s′ : Standing) (row row′ : List ℕ) → rowsAt s n d row ≡ rowsAt s′ n d row′ → phase n s′ < phase n s → sizeAt s′ n d row′ < sizeAt s n d row
+pub smaller : (n d : ℕ) (s s′ : Standing) (row row′ : List ℕ) → rowsAt s n d row ≡ rowsAt s′ n d row′ → movesAt n s′ < movesAt n s → sizeAt s′ n d row′ < sizeAt s n d row
 unfolding sizeAt
 smaller n d s s′ row row′ e h = rw e (omega arith)
 

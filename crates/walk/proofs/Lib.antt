@@ -14,9 +14,18 @@ pub mod Runs
 pub mod Keeping
 pub mod Enough
 pub mod Steps
+-- what the functions compute, step by step
+pub mod RowTests
+pub mod FitSteps
+pub mod OpenSteps
+pub mod PhaseSteps
+pub mod Onward
+pub mod Going
 -- demand 3, and what follows from it
 pub mod Demand
 pub mod Following
 pub mod Named
+pub mod Remaining
+pub mod Next
 pub mod Totalled
 pub mod Bound

@@ -45,13 +45,17 @@ strike-closed test (line {r = r} {p = p} {l = l} h) = go (test r) (strike-closed
     go true g = line g
     go false g = raise-closed p g
 
-pub listing-closed : (n d : ℕ) (test : List ℕ → Bool) (limit : List ℕ) → Closed (listing n d test limit)
-unfolding listing allLines
-listing-closed n d test limit = strike-closed test (go (isNecklaceOf d limit))
+pub all-closed : (n d : ℕ) (limit : List ℕ) → Closed (allLines n d limit)
+unfolding allLines
+all-closed n d limit = go (isNecklaceOf d limit)
   where
     go : (b : Bool) → Closed (limitFirst b limit (necklacesBelow n d limit))
     go true = line (lines-closed true limit (necklacesBelow n d limit))
     go false = lines-closed false limit (necklacesBelow n d limit)
+
+pub listing-closed : (n d : ℕ) (test : List ℕ → Bool) (limit : List ℕ) → Closed (listing n d test limit)
+unfolding listing
+listing-closed n d test limit = strike-closed test (all-closed n d limit)
 
 -- ---- the rings of a book
 
@@ -105,20 +109,22 @@ pub wanted-falling : (n d : ℕ) (test : List ℕ → Bool) (limit : List ℕ) �
 unfolding wanted
 wanted-falling n d test limit = keep-falling (λ r. le r limit && test r) (necklaces-falling n d)
 
-pub rings-listing : (n d : ℕ) (test : List ℕ → Bool) (limit : List ℕ) → length limit ≡ n → Binary limit → ringsOf (listing n d test limit) ≡ wanted n d test limit
-unfolding listing allLines wanted necklacesBelow ringsOf
-rings-listing n d test limit l b =
-    rings-strike test (lines (isNecklaceOf d limit) refl .0) ∙ ap (keep test) (lines (isNecklaceOf d limit) refl .1) ∙ keep-keep (λ r. le r limit) test (necklaces n d)
+-- the lines are the rows of the drawer at or below the limit
+pub rings-all : (n d : ℕ) (limit : List ℕ) → length limit ≡ n → Binary limit → ringsOf (allLines n d limit) ≡ keep (λ r. le r limit) (necklaces n d)
+unfolding allLines necklacesBelow ringsOf
+rings-all n d limit l b = lines (isNecklaceOf d limit) refl
   where
-    allRows : List (List ℕ)
-    allRows = keep (λ r. lt r limit) (necklaces n d)
+    lower : List (List ℕ)
+    lower = keep (λ r. lt r limit) (necklaces n d)
 
-    lines : (t : Bool) → isNecklaceOf d limit ≡ t → Closed (limitFirst t limit allRows) × (ringsOf (limitFirst t limit allRows) ≡ keep (λ r. le r limit) (necklaces n d))
-    lines true e = (
-      line (lines-closed true limit allRows),
-      ap {B = List (List ℕ)} (λ t. limit ∷ t) (rings-lines true limit allRows) ∙ sym (at-or-below limit (necklaces-falling n d) (→member (test-member l b e))),
-    )
-    lines false e = (lines-closed false limit allRows, rings-lines false limit allRows ∙ not-itself n d limit e)
+    lines : (t : Bool) → isNecklaceOf d limit ≡ t → ringsOf (limitFirst t limit lower) ≡ keep (λ r. le r limit) (necklaces n d)
+    lines true e = ap {B = List (List ℕ)} (λ t. limit ∷ t) (rings-lines true limit lower) ∙ sym (at-or-below limit (necklaces-falling n d) (→member (test-member l b e)))
+    lines false e = rings-lines false limit lower ∙ not-itself n d limit e
+
+pub rings-listing : (n d : ℕ) (test : List ℕ → Bool) (limit : List ℕ) → length limit ≡ n → Binary limit → ringsOf (listing n d test limit) ≡ wanted n d test limit
+unfolding listing wanted
+rings-listing n d test limit l b =
+    rings-strike test (all-closed n d limit) ∙ ap (keep test) (rings-all n d limit l b) ∙ keep-keep (λ r. le r limit) test (necklaces n d)
 
 -- ---- the answers of a book that reach none
 
@@ -136,10 +142,10 @@ later-none : {t : Told} {more : List Told} → (t .said ≡ none → ⊥) → Sa
 later-none h now = absurd (h refl)
 later-none h (later k) = k
 
-ring≢none : {r : List ℕ} → ring r ≡ none → ⊥
+pub ring≢none : {r : List ℕ} → ring r ≡ none → ⊥
 ring≢none e = let z : _≡_ {A = ℕ} 0 1 = cc in omega arith
 
-refused≢none : {c : ℕ} → refused c ≡ none → ⊥
+pub refused≢none : {c : ℕ} → refused c ≡ none → ⊥
 refused≢none e = let z : _≡_ {A = ℕ} 0 1 = cc in omega arith
 
 pub listing-names : (allowances : List ℕ) (l : Listing) → Closed l → SaysNone (listingAnswers l allowances) → named (listingAnswers l allowances) ≡ ringsOf l

@@ -47,16 +47,16 @@ unfoldable pub stands : Rules → Walk → Listing
 stands R w = strike (R .ofKind (w .kind)) (linesAt (w .at) (w .n) (w .d) (w .row))
 
 -- moves left in the round, at most
-abbrev pub phase : ℕ → Standing → ℕ
-phase n Limit = 4 * n + 7
-phase n (Down p) = p + n + 2
-phase n (Up zero) = 0
-phase n (Up (suc i)) = suc n - i
-phase n Given = 2 * n + 3
-phase n Ended = 0
+abbrev pub movesAt : ℕ → Standing → ℕ
+movesAt n Limit = 4 * n + 7
+movesAt n (Down p) = p + n + 2
+movesAt n (Up zero) = 0
+movesAt n (Up (suc i)) = suc n - i
+movesAt n Given = 2 * n + 3
+movesAt n Ended = 0
 
 unfoldable pub sizeAt : Standing → ℕ → ℕ → List ℕ → ℕ
-sizeAt s n d row = length (rowsAt s n d row) * (2 * n + 4) + phase n s
+sizeAt s n d row = length (rowsAt s n d row) * (2 * n + 4) + movesAt n s
 
 unfoldable pub size : Walk → ℕ
 size w = sizeAt (w .at) (w .n) (w .d) (w .row)

@@ -4,4 +4,5 @@ pub mod Moves
 pub mod Fit
 pub mod Step
 pub mod Opening
+pub mod Phases
 pub mod Totals

@@ -39,6 +39,11 @@ unfolding keep
 keep-same p q [] h = refl
 keep-same p q (x ∷ l) h = rw (h x (List·Memᴰ·head refl), keep-same p q l (λ w m. h w (List·Memᴰ·tail m)))
 
+pub keep-all : (p : List ℕ → Bool) (l : List (List ℕ)) → ((w : List ℕ) → List·Memᴰ w l → p w ≡ true) → keep p l ≡ l
+unfolding keep
+keep-all p [] h = refl
+keep-all p (w ∷ l) h = rw (h w (List·Memᴰ·head refl), keep-all p l (λ v m. h v (List·Memᴰ·tail m)))
+
 pub any→ : (p : List ℕ → Bool) (l : List (List ℕ)) → any p l ≡ true → (w : List ℕ) × List·Memᴰ w l × (p w ≡ true)
 unfolding any
 any→ p [] e = absurd (false≢true e)

@@ -1,0 +1,145 @@
+-- The tests of a record, one after the other.
+use mathlib.Core.Bool.{Bool, and-assoc, false, true, _&&_}
+use mathlib.Core.List.{List, [], _∷_}
+use mathlib.Core.Path.{ap, refl, subst, sym, _∙_, _≡_}
+use Prim.Native.Nat.{suc, zero, ℕ, _-_, _<_, _≤_}
+use native.Mathlib.Omega.{arith}
+use lib.Dec.{eqb, leb}
+use lib.ListN.{drop, length, length-drop, take, take-append-drop}
+use lib.Seq.{length-take-le, take-all}
+use borrow.Author.Tests.{le-leb, leb-true, lt-leb, ne-eqb}
+use Rattle.density.proofs.Binary.{Binary, binary-append, binary-at, binary-cons, empty}
+use Rattle.density.proofs.Members.{isNecklaceOf→}
+use Rattle.density.specs.Necklaces.{begins, isKind, isNecklaceOf, ofKind}
+use Rattle.prefix.proofs.Places.{symbols-take}
+use Rattle.prefix.specs.Search.{Symbols}
+use Rattle.refusal.proofs.Stations.{Sized, stations→}
+use Rattle.refusal.specs.Verdicts.{areStations, mostStations}
+use Rattle.walk.proofs.Good.{test-binary}
+use Rattle.walk.specs.Fit.{allUpTo, fit, fitAt, fitRow, fitSizes}
+use Rattle.walk.specs.Moves.{rowOf, rules}
+use Rattle.walk.specs.Phases.{Fitting}
+use Rattle.walk.specs.declared.Standing.{Standing}
+use Rattle.walk.specs.declared.Standing.the-variants.{Down, Ended, Given, Up}
+use Rattle.walk.specs.declared.Walk.{Walk}
+use Rattle.words.proofs.Booleans.{and→}
+use Rattle.words.proofs.Rotations.{→isNecklace}
+use Rattle.words.specs.Rotation.{isNecklace}
+
+zero-test : (s : ℕ) → eqb s 0 ≡ leb s 0
+zero-test zero = refl
+zero-test (suc s) = ne-eqb (suc s) 0 (λ e. omega arith) ∙ sym (lt-leb (suc s) 0 (omega arith))
+
+pub clean-binary : (x : List ℕ) → allUpTo 0 x ≡ true → Binary x
+unfolding allUpTo
+clean-binary [] e = empty
+clean-binary (y ∷ x) e = let a = and→ (leb y 0) (allUpTo 0 x) e in binary-cons y (omega (arith, leb-true y 0 (a .0))) (clean-binary x (a .1))
+
+-- the rest of an array of 64, from n on
+pub from-n : (xs : List ℕ) (n : ℕ) → length xs ≡ 64 → take (64 - n) (drop n xs) ≡ drop n xs
+from-n xs n e = take-all (64 - n) (drop n xs) (simp length-drop (omega arith))
+
+module _ (w : Walk) where
+  -- n is tested as the stations are
+  by-stations : fitSizes rules w ≡ (areStations (w .n) && (leb (w .d) (w .n) && isKind (w .kind)))
+  unfolding fitSizes areStations
+  by-stations = sym (and-assoc (leb 1 (w .n)) (leb (w .n) mostStations) (leb (w .d) (w .n) && isKind (w .kind)))
+
+  pub sizes-stations : areStations (w .n) ≡ false → fitSizes rules w ≡ false
+  sizes-stations e = by-stations ∙ rw e
+
+  pub sizes-dense : areStations (w .n) ≡ true → w .n < w .d → fitSizes rules w ≡ false
+  sizes-dense e h = by-stations ∙ rw (e, lt-leb (w .d) (w .n) h)
+
+  pub sizes-kind : areStations (w .n) ≡ true → w .d ≤ w .n → fitSizes rules w ≡ isKind (w .kind)
+  sizes-kind e h = by-stations ∙ rw (e, le-leb (w .d) (w .n) h)
+
+  -- sizes in range
+  pub sizes→ : fitSizes rules w ≡ true → Sized (w .n) × (w .d ≤ w .n)
+  sizes→ e =
+      let a = and→ (areStations (w .n)) (leb (w .d) (w .n) && isKind (w .kind)) (sym by-stations ∙ e) in
+      (stations→ (w .n) (a .0), leb-true (w .d) (w .n) (and→ (leb (w .d) (w .n)) (isKind (w .kind)) (a .1) .0))
+
+  -- ---- the row
+
+  pub row-high : (r : ℕ) → ((b : ℕ) → allUpTo b (rowOf w) ≡ leb r b) → 1 < r → fitRow w ≡ false
+  unfolding fitRow
+  row-high r h l = rw (h 1 ∙ lt-leb r 1 l)
+
+  pub row-low : (r s : ℕ) → ((b : ℕ) → allUpTo b (rowOf w) ≡ leb r b) → r ≤ 1 → ((b : ℕ) → allUpTo b (drop (w .n) (w .row)) ≡ leb s b) → eqb s 0 ≡ fitRow w
+  unfolding fitRow
+  row-low r s h l k = rw (h 1 ∙ le-leb r 1 l, k 0) (zero-test s)
+
+  -- a fit row holds zeros and ones
+  pub row-symbols : fitRow w ≡ true → Symbols (w .row)
+  unfolding fitRow
+  row-symbols e =
+      let a = and→ (allUpTo 1 (rowOf w)) (allUpTo 0 (drop (w .n) (w .row))) e in
+      binary-at (subst Binary (take-append-drop (w .n) (w .row)) (binary-append (test-binary (rowOf w) (a .0)) (clean-binary (drop (w .n) (w .row)) (a .1))))
+
+  -- ---- where it stands
+
+  pub fit-as : (s : Standing) {r : Bool} → w .at ≡ s → r ≡ fitAt rules s w → r ≡ fitAt rules (w .at) w
+  fit-as s e q = q ∙ sym (ap (λ t. fitAt rules t w) e)
+
+  pub at-down : (p : ℕ) → p < 1 → fitAt rules (Down p) w ≡ false
+  unfolding fitAt
+  at-down p h = rw (lt-leb 1 p h)
+
+  pub at-down-to : (p : ℕ) → 1 ≤ p → leb p (w .n) ≡ fitAt rules (Down p) w
+  unfolding fitAt
+  at-down-to p h = rw (le-leb 1 p h)
+
+  pub at-up-low : (p : ℕ) → p < 2 → fitAt rules (Up p) w ≡ false
+  unfolding fitAt
+  at-up-low p h = rw (lt-leb 2 p h)
+
+  pub at-up-high : (p : ℕ) → 2 ≤ p → w .n < p → fitAt rules (Up p) w ≡ false
+  unfolding fitAt
+  at-up-high p h l = rw (le-leb 2 p h, lt-leb p (w .n) l)
+
+  pub at-up : (p : ℕ) → 2 ≤ p → p ≤ w .n → begins (w .n) (w .d) (take (p - 1) (w .row)) ≡ fitAt rules (Up p) w
+  unfolding fitAt
+  at-up p h l = rw (le-leb 2 p h, le-leb p (w .n) l)
+
+  pub at-given-not : isNecklaceOf (w .d) (rowOf w) ≡ false → fitAt rules Given w ≡ false
+  unfolding fitAt
+  at-given-not e = rw e
+
+  pub at-given : isNecklaceOf (w .d) (rowOf w) ≡ true → ofKind (w .kind) (rowOf w) ≡ fitAt rules Given w
+  unfolding fitAt
+  at-given e = rw e
+
+  pub at-ended : (r : ℕ) → ((b : ℕ) → allUpTo b (w .row) ≡ leb r b) → eqb r 0 ≡ fitAt rules Ended w
+  unfolding fitAt
+  at-ended r h = zero-test r ∙ sym (h 0)
+
+  -- ---- all of it
+
+  pub fit-no-sizes : fitSizes rules w ≡ false → fit rules w ≡ false
+  unfolding fit
+  fit-no-sizes e = rw e
+
+  pub fit-no-row : fitSizes rules w ≡ true → fitRow w ≡ false → fit rules w ≡ false
+  unfolding fit
+  fit-no-row e f = rw (e, f)
+
+  pub fit-so-far : fitSizes rules w ≡ true → fitRow w ≡ true → fitAt rules (w .at) w ≡ fit rules w
+  unfolding fit
+  fit-so-far e f = rw (e, f)
+
+-- ---- what the tests of a row ask for
+
+module _ (w : Walk) (f : Fitting w) (l : length (w .row) ≡ 64) where
+  whole-length : length (rowOf w) ≡ w .n
+  whole-length = length-take-le (w .n) (w .row) (omega (arith, f .most))
+
+  pub whole-row : (0 < length (rowOf w)) × (length (rowOf w) ≤ 64) × Symbols (rowOf w)
+  whole-row = (omega (arith, whole-length, f .some), omega (arith, whole-length, f .most), symbols-take (w .n) (w .row) (f .symbols))
+
+  pub beginning : (i : ℕ) → i ≤ w .n → (w .n ≤ 64) × (w .d ≤ w .n) × (length (take i (w .row)) ≤ w .n) × Symbols (take i (w .row)) × (0 < w .n)
+  beginning i h = (f .most, f .dense, omega (arith, length-take-le i (w .row) (omega (arith, f .most))), symbols-take i (w .row) (f .symbols), f .some)
+
+-- a necklace of a density is a necklace
+pub is-necklace : (d : ℕ) (w : List ℕ) → isNecklaceOf d w ≡ true → isNecklace w ≡ true
+is-necklace d w e = →isNecklace w (isNecklaceOf→ d w e .1)

@@ -1,0 +1,127 @@
+-- A book after some of its steps: what the next step says, by what is left.
+
+-- a book with nothing left to come, or with rings and then none
+use mathlib.Core.Bool.{Bool, false, true}
+use mathlib.Core.List.{List, [], map, _++_, _∷_}
+use mathlib.Core.Path.{ap, refl, sym, _∙_, _≡_}
+use Prim.Native.Nat.{ℕ, _<_, _≤_}
+use native.Mathlib.Omega.{arith}
+use lib.Dec.{ltb}
+use borrow.Author.Tests.{le-ltb, lt-ltb, ltb-false, ltb-true}
+use Rattle.walk.proofs.Named.{Closed, last, line, refused≢none, ring≢none}
+use Rattle.walk.specs.Listing.{Listing, Said, entry, listed, listingAnswers, listingStep, none, over, pay, refused, ring, told}
+use Rattle.walk.specs.Totals.{also, listingLeft, named, owed, ringsOf}
+
+pub data Remaining : Listing → Type 0 where
+  ended : Remaining over
+  to-come : {l : Listing} → Closed l → Remaining l
+
+step-remaining : {l : Listing} → Remaining l → (a : ℕ) → Remaining (listingStep l a .left)
+unfolding listingStep
+step-remaining ended a = ended
+step-remaining (to-come (last {p = p})) a = go (ltb a p)
+  where
+    go : (b : Bool) → Remaining (pay b none p over a .left)
+    go true = to-come last
+    go false = ended
+step-remaining (to-come (line {r = r} {p = p} {l = l} c)) a = go (ltb a p)
+  where
+    go : (b : Bool) → Remaining (pay b (ring r) p l a .left)
+    go true = to-come (line c)
+    go false = to-come c
+
+pub remaining : (steps : List ℕ) {l : Listing} → Remaining l → Remaining (listingLeft l steps)
+unfolding listingLeft
+remaining [] h = h
+remaining (a ∷ more) h = remaining more (step-remaining h a)
+
+-- a step names a ring, or leaves the rings as they are
+step-named : {l : Listing} → Remaining l → (a : ℕ) → also (listingStep l a .tells .said) (ringsOf (listingStep l a .left)) ≡ ringsOf l
+unfolding listingStep ringsOf
+step-named ended a = refl
+step-named (to-come (last {p = p})) a = go (ltb a p)
+  where
+    go : (b : Bool) → also (pay b none p over a .tells .said) (ringsOf (pay b none p over a .left)) ≡ []
+    go true = refl
+    go false = refl
+step-named (to-come (line {r = r} {p = p} {l = l} c)) a = go (ltb a p)
+  where
+    go : (b : Bool) → also (pay b (ring r) p l a .tells .said) (ringsOf (pay b (ring r) p l a .left)) ≡ r ∷ ringsOf l
+    go true = refl
+    go false = refl
+
+also-append : (s : Said) (x y : List (List ℕ)) → also s x ++ y ≡ also s (x ++ y)
+also-append (ring r) x y = refl
+also-append none x y = refl
+also-append (refused c) x y = refl
+
+-- the rings named and the rings to come are the rings of the book
+pub named-left : (steps : List ℕ) {l : Listing} → Remaining l → named (listingAnswers l steps) ++ ringsOf (listingLeft l steps) ≡ ringsOf l
+unfolding named listingAnswers listingLeft
+named-left [] h = refl
+named-left (a ∷ more) {l} h =
+    let s = listingStep l a in
+    also-append (s .tells .said) (named (listingAnswers (s .left) more)) (ringsOf (listingLeft (s .left) more)) ∙ ap (also (s .tells .said)) (named-left more (step-remaining h a)) ∙ step-named h a
+
+ring≢refused : {r : List ℕ} {c : ℕ} → ring r ≡ refused c → ⊥
+ring≢refused e = let z : _≡_ {A = ℕ} 0 1 = cc in omega arith
+
+entry≢over : {s : Said} {p : ℕ} {l : Listing} → entry s p l ≡ over → ⊥
+entry≢over e = let z : _≡_ {A = ℕ} 0 1 = cc in omega arith
+
+-- ---- spent
+
+ended≢spent : refused 20 ≡ refused 21 → ⊥
+ended≢spent e = let z : _≡_ {A = ℕ} 20 21 = cc in omega arith
+
+pub spent→ : {l : Listing} → Remaining l → (a : ℕ) → listingStep l a .tells .said ≡ refused 21 → a < owed l
+unfolding listingStep
+spent→ ended a e = absurd (ended≢spent e)
+spent→ (to-come (last {p = p})) a e = go (ltb a p) refl e
+  where
+    go : (b : Bool) → ltb a p ≡ b → pay b none p over a .tells .said ≡ refused 21 → a < p
+    go true q e = ltb-true a p q
+    go false q e = absurd (refused≢none (sym e))
+spent→ (to-come (line {r = r} {p = p} {l = l} c)) a e = go (ltb a p) refl e
+  where
+    go : (b : Bool) → ltb a p ≡ b → pay b (ring r) p l a .tells .said ≡ refused 21 → a < p
+    go true q e = ltb-true a p q
+    go false q e = absurd (ring≢refused e)
+
+pub →spent : (l : Listing) (a : ℕ) → a < owed l → listingStep l a .tells ≡ told (refused 21) a
+unfolding listingStep
+→spent over a h = absurd (omega arith)
+→spent (entry s p l) a h = rw (lt-ltb a p h)
+
+-- ---- none
+
+pub none→ : {l : Listing} → Remaining l → (a : ℕ) → listingStep l a .tells .said ≡ none → (ringsOf l ≡ []) × (l ≡ over → ⊥) × (owed l ≤ a)
+unfolding listingStep ringsOf
+none→ ended a e = absurd (refused≢none e)
+none→ (to-come (last {p = p})) a e = go (ltb a p) refl e
+  where
+    go : (b : Bool) → ltb a p ≡ b → pay b none p over a .tells .said ≡ none → (_≡_ {A = List (List ℕ)} [] []) × (entry none p over ≡ over → ⊥) × (p ≤ a)
+    go true q e = absurd (refused≢none e)
+    go false q e = (refl, entry≢over, ltb-false a p q)
+none→ (to-come (line {r = r} {p = p} {l = l} c)) a e = go (ltb a p) e
+  where
+    go : (b : Bool) → pay b (ring r) p l a .tells .said ≡ none → (r ∷ ringsOf l ≡ []) × (entry (ring r) p l ≡ over → ⊥) × (p ≤ a)
+    go true e = absurd (refused≢none e)
+    go false e = absurd (ring≢none e)
+
+pub →none : {l : Listing} → Remaining l → (a : ℕ) → ringsOf l ≡ [] → (l ≡ over → ⊥) → owed l ≤ a → listingStep l a ≡ listed none (owed l) over
+unfolding listingStep ringsOf
+→none ended a e h k = absurd (h refl)
+→none (to-come (last {p = p})) a e h k = rw (le-ltb a p k)
+→none (to-come (line {r = r} {l = l} c)) a e h k = let z : _≡_ {A = ℕ} 0 1 = cc in absurd (omega arith)
+
+-- what none leaves
+pub none-over : {l : Listing} → Remaining l → (a : ℕ) → listingStep l a .tells .said ≡ none → listingStep l a .left ≡ over
+none-over {l} r a e = let h = none→ r a e in rw (→none r a (h .0) (h .1) (h .2))
+
+-- ---- ended
+
+pub over-answers : (steps : List ℕ) → listingAnswers over steps ≡ map (λ a. told (refused 20) 0) steps
+unfolding listingAnswers listingStep
+over-answers [] = refl
+over-answers (a ∷ more) = rw (over-answers more)

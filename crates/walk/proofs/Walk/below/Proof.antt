@@ -1,0 +1,16 @@
+-- `walk::Walk::below` meets its contract.
+use mathlib.Core.Path.{sym}
+use borrow.Author.Needs.{needs}
+use Rattle.prefix.proofs.Places.{taken}
+use Rattle.walk.proofs.PhaseSteps.{gone-last, gone-on}
+use Rattle.walk.proofs.Walk.below.Statement.{statement}
+use Rattle.walk.proofs.Walk.below.Tie as tie
+
+returns : tie.Need-returns
+returns c = sym (gone-last (c .before .before .args .self) (c .if1 .taken))
+
+returns-2 : tie.Need-returns-2
+returns-2 c = sym (gone-on (c .before .before .args .self) (c .if1 .left))
+
+pub below-spec : {M : Type 1} → statement M
+below-spec = tie.close (tie.spec returns (λ c. search needs) (λ c. search needs) returns-2)
