@@ -1,0 +1,26 @@
+-- `row_test::print_row` is safe and ends.
+use Prim.Native.Nat.{_≤_, _-_}
+use borrow.Author.Needs.{needs}
+use Rattle.row_test.proofs.print_row.Statement.{statement}
+use Rattle.row_test.proofs.print_row.Tie as tie
+
+abbrev Inv-loop : tie.InvT-loop
+Inv-loop n row i₀ i = i ≤ n
+
+abbrev μ-loop : tie.MeasureT-loop
+μ-loop n row i₀ i = n - i
+
+pub print-row-spec : {M : Type 1} → statement M
+print-row-spec =
+    tie.close
+    (tie.spec
+    Inv-loop
+    μ-loop
+    (λ c. search needs)
+    (λ c. search needs)
+    (λ c κs. search needs)
+    (λ c κs. search needs)
+    (λ c. search needs)
+    (λ c. search needs)
+    (λ c. search needs)
+    (λ c. search needs))
