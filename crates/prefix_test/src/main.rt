@@ -1,55 +1,11 @@
 // The prefix question against a listing of all necklaces of up to 10 stations, its pitfalls, and its refusals in their order.
 use prefix::PrefixAnswer;
-use refusal::Refusal;
 ghost use Prim.Native.Nat.{_<_, _≤_};
 ghost use lib.ListN.{length};
 
 // A row is listed under its number: a binary 1 and then its symbols. Half of the number is that of the row without its last symbol.
 // Behind each number there is a mark for each density.
 const DENSITIES: usize = 11;
-
-fn one_if(holds: bool) -> usize
-    ensures { λ r. ⌜ r ≤ 1 ⌝ }
-{
-    if holds { 1 } else { 0 }
-}
-
-// The number of n zeros, n up to 10.
-fn first_number(n: usize) -> usize
-    ensures { λ r. ⌜ r ≤ 1024 ⌝ }
-{
-    match n {
-        0 => 1,
-        1 => 2,
-        2 => 4,
-        3 => 8,
-        4 => 16,
-        5 => 32,
-        6 => 64,
-        7 => 128,
-        8 => 256,
-        9 => 512,
-        10 => 1024,
-        _ => 0,
-    }
-}
-
-// The row of n stations with that number.
-fn row_of_number(n: usize, number: usize) -> [u8; 64]
-    requires { ⌜ n ≤ 64 ⌝ }
-{
-    let mut row = [0u8; 64];
-    let mut rest = number;
-    let mut i = n;
-    while 0 < i {
-        i -= 1;
-        if rest % 2 == 1 {
-            row[i] = 1;
-        }
-        rest /= 2;
-    }
-    row
-}
 
 // How many holes the row has.
 fn count_holes(row: &[u8; 64], n: usize) -> usize
@@ -59,54 +15,10 @@ fn count_holes(row: &[u8; 64], n: usize) -> usize
     let mut holes: usize = 0;
     let mut i: usize = 0;
     while i < n {
-        holes += one_if(row[i] == 1);
+        holes += plain_rows::one_if(row[i] == 1);
         i += 1;
     }
     holes
-}
-
-// The symbol at a place of the row that is read on and on.
-fn symbol(row: &[u8; 64], n: usize, i: usize) -> u8
-    requires { ⌜ 0 < n ⌝ }
-    requires { ⌜ n ≤ 64 ⌝ }
-{
-    row[i % n]
-}
-
-// Whether turn j lies below the row, place by place.
-fn turn_below(row: &[u8; 64], n: usize, j: usize) -> bool
-    requires { ⌜ 0 < n ⌝ }
-    requires { ⌜ n ≤ 64 ⌝ }
-    requires { ⌜ j ≤ 64 ⌝ }
-{
-    let mut k: usize = 0;
-    while k < n {
-        let x = symbol(row, n, j + k);
-        let y = symbol(row, n, k);
-        if x < y {
-            return true;
-        }
-        if y < x {
-            return false;
-        }
-        k += 1;
-    }
-    false
-}
-
-// Whether no turn lies below the row.
-fn is_shelved(row: &[u8; 64], n: usize) -> bool
-    requires { ⌜ 0 < n ⌝ }
-    requires { ⌜ n ≤ 64 ⌝ }
-{
-    let mut j: usize = 1;
-    while j < n {
-        if turn_below(row, n, j) {
-            return false;
-        }
-        j += 1;
-    }
-    true
 }
 
 // Marks the row with that number, and all that begins it, at a density.
@@ -126,11 +38,11 @@ fn mark_all(marks: &mut [u8; 22528], n: usize)
     requires { ⌜ 0 < n ⌝ }
     requires { ⌜ n ≤ 10 ⌝ }
 {
-    let end = 2 * first_number(n);
-    let mut number = first_number(n);
+    let end = 2 * plain_rows::count_rows(n);
+    let mut number = plain_rows::count_rows(n);
     while number < end {
-        let row = row_of_number(n, number);
-        if is_shelved(&row, n) {
+        let row = plain_rows::row_of_number(n, number);
+        if plain_rows::is_least(&row, n, 0) {
             mark(marks, number, count_holes(&row, n));
         }
         number += 1;
@@ -159,14 +71,14 @@ fn ask_prefix(marks: &[u8; 22528], n: usize, t: usize, number: usize) -> Counts
     requires { ⌜ number < 2048 ⌝ }
     ensures { λ r. ⌜ (r .asked ≤ 11) × (r .agreed ≤ 11) × (r .begun ≤ 11) ⌝ }
 {
-    let row = row_of_number(t, number);
+    let row = plain_rows::row_of_number(t, number);
     let mut agreed: usize = 0;
     let mut begun: usize = 0;
     let mut d: usize = 0;
     while d <= n {
         let answer = answer_number(prefix::ask(n, d, &row[..t]));
-        agreed += one_if(answer == marks[number * DENSITIES + d]);
-        begun += one_if(answer == 1);
+        agreed += plain_rows::one_if(answer == marks[number * DENSITIES + d]);
+        begun += plain_rows::one_if(answer == 1);
         d += 1;
     }
     Counts {
@@ -182,11 +94,11 @@ fn ask_length(marks: &[u8; 22528], n: usize, t: usize) -> Counts
     requires { ⌜ t ≤ 64 ⌝ }
     ensures { λ r. ⌜ (r .asked ≤ 22528) × (r .agreed ≤ 22528) × (r .begun ≤ 22528) ⌝ }
 {
-    let end = 2 * first_number(t);
+    let end = 2 * plain_rows::count_rows(t);
     let mut asked: usize = 0;
     let mut agreed: usize = 0;
     let mut begun: usize = 0;
-    let mut number = first_number(t);
+    let mut number = plain_rows::count_rows(t);
     while number < end {
         let counts = ask_prefix(marks, n, t, number);
         asked += counts.asked;
@@ -223,11 +135,6 @@ fn ask_all(marks: &[u8; 22528], n: usize) -> Counts
     }
 }
 
-fn print_named(name: &[u8], n: usize) {
-    io::write_all(1, name);
-    io::print_decimal(1, n as u64);
-}
-
 // All questions on n stations.
 fn compare(n: usize)
     requires { ⌜ 0 < n ⌝ }
@@ -236,10 +143,10 @@ fn compare(n: usize)
     let mut marks = [0u8; 22528];
     mark_all(&mut marks, n);
     let counts = ask_all(&marks, n);
-    print_named(b"", n);
-    print_named(b" asked ", counts.asked);
-    print_named(b" agreed ", counts.agreed);
-    print_named(b" yes ", counts.begun);
+    plain_rows::print_named(b"", n);
+    plain_rows::print_named(b" asked ", counts.asked);
+    plain_rows::print_named(b" agreed ", counts.agreed);
+    plain_rows::print_named(b" yes ", counts.begun);
     io::write_all(1, b"\n");
 }
 
@@ -253,15 +160,6 @@ fn compare_all() {
 
 // ---- single questions
 
-fn wide(x: u8) -> usize {
-    x as usize
-}
-
-fn print_refusal(r: Refusal) {
-    print_named(b"refused ", wide(refusal::number(r)));
-    print_named(b" place ", refusal::place(r));
-}
-
 fn print_answer(answer: PrefixAnswer) {
     match answer {
         PrefixAnswer::Answered(yes) => {
@@ -271,21 +169,8 @@ fn print_answer(answer: PrefixAnswer) {
                 io::write_all(1, b"no");
             }
         }
-        PrefixAnswer::Refused(r) => print_refusal(r),
+        PrefixAnswer::Refused(r) => plain_rows::print_refusal(r),
     }
-}
-
-// The row of some digits.
-fn symbols(digits: &[u8]) -> [u8; 80]
-    requires { ⌜ length (now digits) ≤ 80 ⌝ }
-{
-    let mut row = [0u8; 80];
-    let mut i: usize = 0;
-    while i < digits.len() {
-        row[i] = digits[i] % 16;
-        i += 1;
-    }
-    row
 }
 
 // The question on a prefix that is written as digits.
@@ -293,10 +178,10 @@ fn show(n: usize, d: usize, digits: &[u8])
     requires { ⌜ length (now digits) ≤ 80 ⌝ }
 {
     let t = digits.len();
-    let row = symbols(digits);
+    let row = plain_rows::symbols(digits);
     let answer = prefix::ask(n, d, &row[..t]);
-    print_named(b"(", n);
-    print_named(b",", d);
+    plain_rows::print_named(b"(", n);
+    plain_rows::print_named(b",", d);
     io::write_all(1, b") prefix ");
     io::write_all(1, digits);
     io::write_all(1, b": ");

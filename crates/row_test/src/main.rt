@@ -3,7 +3,6 @@ use gaps::ListAnswer;
 use gaps::RowAnswer;
 use necklace::ClassAnswer;
 use necklace::KeyAnswer;
-use refusal::Refusal;
 ghost use Prim.Native.Nat.{_<_, _≤_};
 ghost use lib.ListN.{length};
 
@@ -14,39 +13,11 @@ const FRESH_GAP: usize = 99;
 
 // ---- printing
 
-fn wide(x: u8) -> usize {
-    x as usize
-}
-
-fn print_number(n: usize) {
-    io::print_decimal(1, n as u64);
-}
-
-fn print_named(name: &[u8], n: usize) {
-    io::write_all(1, name);
-    print_number(n);
-}
-
-fn print_refusal(r: Refusal) {
-    print_named(b"refused ", wide(refusal::number(r)));
-    print_named(b" place ", refusal::place(r));
-}
-
-fn print_row(n: usize, row: &[u8; 80]) {
-    let mut i: usize = 0;
-    while i < n {
-        if i < 80 {
-            print_number(wide(row[i]));
-        }
-        i += 1;
-    }
-}
-
 fn print_gaps(count: usize, list: &[usize]) {
     let mut k: usize = 0;
     while k < count {
         if k < list.len() {
-            print_named(b" ", list[k]);
+            plain_rows::print_named(b" ", list[k]);
         }
         k += 1;
     }
@@ -61,18 +32,12 @@ fn print_said(name: &[u8], said: bool) {
     }
 }
 
-fn one_if(holds: bool) -> usize
-    ensures { λ r. ⌜ r ≤ 1 ⌝ }
-{
-    if holds { 1 } else { 0 }
-}
-
 // How many bytes of the buffer are as they were.
 fn count_fresh(buffer: &[u8; 80]) -> usize {
     let mut fresh: usize = 0;
     let mut i: usize = 0;
     while i < 80 {
-        fresh += one_if(buffer[i] == FRESH);
+        fresh += plain_rows::one_if(buffer[i] == FRESH);
         i += 1;
     }
     fresh
@@ -83,35 +48,22 @@ fn count_fresh_gaps(buffer: &[usize; 80]) -> usize {
     let mut fresh: usize = 0;
     let mut i: usize = 0;
     while i < 80 {
-        fresh += one_if(buffer[i] == FRESH_GAP);
+        fresh += plain_rows::one_if(buffer[i] == FRESH_GAP);
         i += 1;
     }
     fresh
 }
 
 fn print_as_before(fresh: usize) {
-    print_named(b" as before ", fresh);
+    plain_rows::print_named(b" as before ", fresh);
     io::write_all(1, b"\n");
 }
 
 // ---- the operations on a row that is written as digits
 
-// The row of some digits.
-fn symbols(digits: &[u8]) -> [u8; 80]
-    requires { ⌜ length (now digits) ≤ 80 ⌝ }
-{
-    let mut row = [0u8; 80];
-    let mut i: usize = 0;
-    while i < digits.len() {
-        row[i] = digits[i] % 16;
-        i += 1;
-    }
-    row
-}
-
 fn print_question(name: &[u8], digits: &[u8]) {
     io::write_all(1, name);
-    print_named(b" of ", digits.len());
+    plain_rows::print_named(b" of ", digits.len());
     io::write_all(1, b" stations ");
     io::write_all(1, digits);
 }
@@ -119,11 +71,11 @@ fn print_question(name: &[u8], digits: &[u8]) {
 fn print_key(answer: KeyAnswer, n: usize, out: &[u8; 80]) {
     match answer {
         KeyAnswer::Found { rotation, period } => {
-            print_row(n, out);
-            print_named(b" turn ", rotation);
-            print_named(b" period ", period);
+            plain_rows::print_row(n, out);
+            plain_rows::print_named(b" turn ", rotation);
+            plain_rows::print_named(b" period ", period);
         }
-        KeyAnswer::Refused(r) => print_refusal(r),
+        KeyAnswer::Refused(r) => plain_rows::print_refusal(r),
     }
 }
 
@@ -133,11 +85,11 @@ fn show_key(digits: &[u8], room: usize)
     requires { ⌜ room ≤ 80 ⌝ }
 {
     let n = digits.len();
-    let row = symbols(digits);
+    let row = plain_rows::symbols(digits);
     let mut out = [FRESH; 80];
     let answer = necklace::key(&row[..n], &mut out[..room]);
     print_question(b"key", digits);
-    print_named(b" buffer ", room);
+    plain_rows::print_named(b" buffer ", room);
     io::write_all(1, b": ");
     print_key(answer, n, &out);
     print_as_before(count_fresh(&out));
@@ -149,7 +101,7 @@ fn print_class(answer: ClassAnswer) {
             print_said(b"shelved", necklace);
             print_said(b" without symmetry", lyndon);
         }
-        ClassAnswer::Refused(r) => print_refusal(r),
+        ClassAnswer::Refused(r) => plain_rows::print_refusal(r),
     }
 }
 
@@ -157,7 +109,7 @@ fn show_class(digits: &[u8])
     requires { ⌜ length (now digits) ≤ 80 ⌝ }
 {
     let n = digits.len();
-    let row = symbols(digits);
+    let row = plain_rows::symbols(digits);
     let answer = necklace::class(&row[..n]);
     print_question(b"class", digits);
     io::write_all(1, b": ");
@@ -168,11 +120,11 @@ fn show_class(digits: &[u8])
 fn print_list(answer: ListAnswer, out: &[usize; 80]) {
     match answer {
         ListAnswer::Listed(k) => {
-            print_named(b"gaps ", k);
+            plain_rows::print_named(b"gaps ", k);
             io::write_all(1, b":");
             print_gaps(k, out);
         }
-        ListAnswer::NoList(r) => print_refusal(r),
+        ListAnswer::NoList(r) => plain_rows::print_refusal(r),
     }
 }
 
@@ -182,11 +134,11 @@ fn show_list(digits: &[u8], room: usize)
     requires { ⌜ room ≤ 80 ⌝ }
 {
     let n = digits.len();
-    let row = symbols(digits);
+    let row = plain_rows::symbols(digits);
     let mut out = [FRESH_GAP; 80];
     let answer = gaps::gaps_of_row(&row[..n], &mut out[..room]);
     print_question(b"gap list", digits);
-    print_named(b" buffer ", room);
+    plain_rows::print_named(b" buffer ", room);
     io::write_all(1, b": ");
     print_list(answer, &out);
     print_as_before(count_fresh_gaps(&out));
@@ -194,8 +146,8 @@ fn show_list(digits: &[u8], room: usize)
 
 fn print_written(answer: RowAnswer, n: usize, out: &[u8; 80]) {
     match answer {
-        RowAnswer::Written => print_row(n, out),
-        RowAnswer::NoRow(r) => print_refusal(r),
+        RowAnswer::Written => plain_rows::print_row(n, out),
+        RowAnswer::NoRow(r) => plain_rows::print_refusal(r),
     }
 }
 
@@ -205,99 +157,17 @@ fn show_row(n: usize, list: &[usize], room: usize)
 {
     let mut out = [FRESH; 80];
     let answer = gaps::row_of_gaps(n, list, &mut out[..room]);
-    print_named(b"row of ", n);
-    print_named(b" stations and ", list.len());
+    plain_rows::print_named(b"row of ", n);
+    plain_rows::print_named(b" stations and ", list.len());
     io::write_all(1, b" gaps");
     print_gaps(list.len(), list);
-    print_named(b" buffer ", room);
+    plain_rows::print_named(b" buffer ", room);
     io::write_all(1, b": ");
     print_written(answer, n, &out);
     print_as_before(count_fresh(&out));
 }
 
 // ---- all rows of up to 10 stations
-
-// How many rows of n stations there are.
-fn count_rows(n: usize) -> usize
-    ensures { λ r. ⌜ r ≤ 1024 ⌝ }
-{
-    match n {
-        1 => 2,
-        2 => 4,
-        3 => 8,
-        4 => 16,
-        5 => 32,
-        6 => 64,
-        7 => 128,
-        8 => 256,
-        9 => 512,
-        10 => 1024,
-        _ => 0,
-    }
-}
-
-// The row of n stations whose symbols are the last binary digits of a number.
-fn row_of_number(n: usize, number: usize) -> [u8; 64]
-    requires { ⌜ n ≤ 64 ⌝ }
-{
-    let mut row = [0u8; 64];
-    let mut rest = number;
-    let mut i = n;
-    while 0 < i {
-        i -= 1;
-        if rest % 2 == 1 {
-            row[i] = 1;
-        }
-        rest /= 2;
-    }
-    row
-}
-
-// The symbol at a place of the row that is read on and on.
-fn symbol(row: &[u8; 64], n: usize, i: usize) -> u8
-    requires { ⌜ 0 < n ⌝ }
-    requires { ⌜ n ≤ 64 ⌝ }
-{
-    row[i % n]
-}
-
-// Turn j against turn i, place by place: 0 lower, 1 the same, 2 higher.
-fn turn_order(row: &[u8; 64], n: usize, j: usize, i: usize) -> u8
-    requires { ⌜ 0 < n ⌝ }
-    requires { ⌜ n ≤ 64 ⌝ }
-    requires { ⌜ j ≤ 64 ⌝ }
-    requires { ⌜ i ≤ 64 ⌝ }
-{
-    let mut k: usize = 0;
-    while k < n {
-        let x = symbol(row, n, j + k);
-        let y = symbol(row, n, i + k);
-        if x < y {
-            return 0;
-        }
-        if y < x {
-            return 2;
-        }
-        k += 1;
-    }
-    1
-}
-
-// Whether no turn lies below turn j.
-fn is_least(row: &[u8; 64], n: usize, j: usize) -> bool
-    requires { ⌜ 0 < n ⌝ }
-    requires { ⌜ n ≤ 64 ⌝ }
-    requires { ⌜ j ≤ 64 ⌝ }
-{
-    let mut i: usize = 0;
-    while i < n {
-        if turn_order(row, n, i, j) == 0 {
-            return false;
-        }
-        i += 1;
-    }
-    true
-}
 
 // The smallest turn that is least.
 fn first_least(row: &[u8; 64], n: usize) -> usize
@@ -307,7 +177,7 @@ fn first_least(row: &[u8; 64], n: usize) -> usize
 {
     let mut j: usize = 0;
     while j < n {
-        if is_least(row, n, j) {
+        if plain_rows::is_least(row, n, j) {
             return j;
         }
         j += 1;
@@ -322,7 +192,7 @@ fn first_same(row: &[u8; 64], n: usize) -> usize
 {
     let mut p: usize = 1;
     while p < n {
-        if turn_order(row, n, p, 0) == 1 {
+        if plain_rows::turn_order(row, n, p, 0) == 1 {
             return p;
         }
         p += 1;
@@ -338,7 +208,7 @@ fn is_turn(out: &[u8; 64], row: &[u8; 64], n: usize, j: usize) -> bool
 {
     let mut k: usize = 0;
     while k < n {
-        if out[k] != symbol(row, n, j + k) {
+        if out[k] != plain_rows::symbol(row, n, j + k) {
             return false;
         }
         k += 1;
@@ -372,7 +242,7 @@ fn class_agrees(row: [u8; 64], n: usize) -> bool
     requires { ⌜ 0 < n ⌝ }
     requires { ⌜ n ≤ 64 ⌝ }
 {
-    let shelved = is_least(&row, n, 0);
+    let shelved = plain_rows::is_least(&row, n, 0);
     match necklace::class(&row[..n]) {
         ClassAnswer::Of { necklace, lyndon } => {
             if necklace != shelved {
@@ -485,14 +355,14 @@ fn compare_rows(what: Compared, n: usize) -> Counts
     requires { ⌜ n ≤ 64 ⌝ }
     ensures { λ r. ⌜ (r .compared ≤ 1024) × (r .agreed ≤ 1024) ⌝ }
 {
-    let rows = count_rows(n);
+    let rows = plain_rows::count_rows(n);
     let mut compared: usize = 0;
     let mut agreed: usize = 0;
     let mut number: usize = 0;
     while number < rows {
-        let row = row_of_number(n, number);
-        compared += one_if(concerns(what, &row, n));
-        agreed += one_if(agrees(what, row, n));
+        let row = plain_rows::row_of_number(n, number);
+        compared += plain_rows::one_if(concerns(what, &row, n));
+        agreed += plain_rows::one_if(agrees(what, row, n));
         number += 1;
     }
     Counts { compared, agreed }
@@ -508,8 +378,8 @@ fn compare_all(what: Compared) {
         agreed += counts.agreed;
         n += 1;
     }
-    print_named(b" compared ", compared);
-    print_named(b" agreed ", agreed);
+    plain_rows::print_named(b" compared ", compared);
+    plain_rows::print_named(b" agreed ", agreed);
     io::write_all(1, b"\n");
 }
 

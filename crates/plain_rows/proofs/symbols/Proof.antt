@@ -1,9 +1,9 @@
--- `prefix_test::symbols` is safe and ends.
+-- `plain_rows::symbols` is safe and ends.
 use Prim.Native.Nat.{_≤_, _-_}
 use lib.ListN.{length}
 use borrow.Author.Needs.{needs}
-use Rattle.prefix_test.proofs.symbols.Statement.{statement}
-use Rattle.prefix_test.proofs.symbols.Tie as tie
+use Rattle.plain_rows.proofs.symbols.Statement.{statement}
+use Rattle.plain_rows.proofs.symbols.Tie as tie
 
 abbrev Inv-loop : tie.InvT-loop
 Inv-loop digits row₀ i₀ row i = i ≤ length digits

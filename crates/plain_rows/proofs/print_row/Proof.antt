@@ -1,27 +1,26 @@
--- `prefix_test::turn_below` is safe and ends.
+-- `plain_rows::print_row` is safe and ends.
 use Prim.Native.Nat.{_≤_, _-_}
 use borrow.Author.Needs.{needs}
-use Rattle.prefix_test.proofs.turn_below.Statement.{statement}
-use Rattle.prefix_test.proofs.turn_below.Tie as tie
+use Rattle.plain_rows.proofs.print_row.Statement.{statement}
+use Rattle.plain_rows.proofs.print_row.Tie as tie
 
 abbrev Inv-loop : tie.InvT-loop
-Inv-loop row n j k₀ k = k ≤ n
+Inv-loop n row i₀ t4 i = i ≤ n
 
 abbrev μ-loop : tie.MeasureT-loop
-μ-loop row n j k₀ k = n - k
+μ-loop n row i₀ t4 i = n - i
 
-pub turn-below-spec : {M : Type 1} → statement M
-turn-below-spec =
+pub print-row-spec : {M : Type 1} → statement M
+print-row-spec =
     tie.close
     (tie.spec
     Inv-loop
     μ-loop
     (λ c. search needs)
     (λ c. search needs)
+    (λ c. search needs)
     (λ c κs. search needs)
     (λ c κs. search needs)
-    (λ c. search needs)
-    (λ c. search needs)
     (λ c. search needs)
     (λ c. search needs)
     (λ c. search needs)

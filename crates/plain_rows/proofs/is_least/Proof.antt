@@ -1,8 +1,8 @@
--- `row_test::is_least` is safe and ends.
+-- `plain_rows::is_least` is safe and ends.
 use Prim.Native.Nat.{_≤_, _-_}
 use borrow.Author.Needs.{needs}
-use Rattle.row_test.proofs.is_least.Statement.{statement}
-use Rattle.row_test.proofs.is_least.Tie as tie
+use Rattle.plain_rows.proofs.is_least.Statement.{statement}
+use Rattle.plain_rows.proofs.is_least.Tie as tie
 
 abbrev Inv-loop : tie.InvT-loop
 Inv-loop row n j i₀ i = i ≤ n

@@ -1,8 +1,8 @@
--- `row_test::turn_order` is safe and ends.
+-- `plain_rows::turn_order` is safe and ends.
 use Prim.Native.Nat.{_≤_, _-_}
 use borrow.Author.Needs.{needs}
-use Rattle.row_test.proofs.turn_order.Statement.{statement}
-use Rattle.row_test.proofs.turn_order.Tie as tie
+use Rattle.plain_rows.proofs.turn_order.Statement.{statement}
+use Rattle.plain_rows.proofs.turn_order.Tie as tie
 
 abbrev Inv-loop : tie.InvT-loop
 Inv-loop row n j i k₀ k = k ≤ n

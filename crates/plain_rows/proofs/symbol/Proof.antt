@@ -1,9 +1,9 @@
--- `row_test::symbol` is safe and ends: a remainder lies below its divisor.
+-- `plain_rows::symbol` is safe and ends: a remainder lies below its divisor.
 use native.Mathlib.Nat.{mod-lt}
 use native.Mathlib.Omega.{arith}
 use borrow.Author.Needs.{needs}
-use Rattle.row_test.proofs.symbol.Statement.{statement}
-use Rattle.row_test.proofs.symbol.Tie as tie
+use Rattle.plain_rows.proofs.symbol.Statement.{statement}
+use Rattle.plain_rows.proofs.symbol.Tie as tie
 
 element-copy-out-result : tie.Need-element-copy-out-result
 element-copy-out-result c = omega (arith, mod-lt (c .args .i) {m = c .args .n} (omega arith))

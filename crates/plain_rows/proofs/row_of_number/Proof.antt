@@ -1,8 +1,8 @@
--- `row_test::row_of_number` is safe and ends.
+-- `plain_rows::row_of_number` is safe and ends.
 use Prim.Native.Nat.{_≤_}
 use borrow.Author.Needs.{needs}
-use Rattle.row_test.proofs.row_of_number.Statement.{statement}
-use Rattle.row_test.proofs.row_of_number.Tie as tie
+use Rattle.plain_rows.proofs.row_of_number.Statement.{statement}
+use Rattle.plain_rows.proofs.row_of_number.Tie as tie
 
 abbrev Inv-loop : tie.InvT-loop
 Inv-loop n number row₀ rest₀ i₀ row rest i = i ≤ n
