@@ -40,12 +40,25 @@ abbrev pub listWritten : Verdict → List ℕ → List ℕ → List ℕ
 listWritten accepted w out = gapsOfRow w ++ drop (length (gapsOfRow w)) out
 listWritten (refused r) w out = out
 
--- ---- document 01's numbers: the refusal or 0, its place, and how many gaps were written
+-- ---- document 01's numbers
 
+-- a row is written: a refusal's number and place, both 0 for none
 abbrev pub rowNumbers : RowAnswer → ℕ × ℕ
 rowNumbers Written = (0, 0)
 rowNumbers (NoRow r) = (numberOf r, placeOf r)
 
-abbrev pub listNumbers : ListAnswer → ℕ × ℕ × ℕ
-listNumbers (Listed k) = (0, 0, k)
-listNumbers (NoList r) = (numberOf r, placeOf r, 0)
+-- a refusal's number, 0 for none, and its place; "how many gaps it wrote"
+pub record ListNumbers : Type 0 where
+  pub number : ℕ
+  pub place : ℕ
+  pub count : ℕ
+
+-- the numbers of each case of the answer: "any other number returned beside it is 0"
+abbrev pub listNumbers : ListAnswer → ListNumbers
+listNumbers (Listed k) = record { number = 0; place = 0; count = k }
+listNumbers (NoList r) = record { number = numberOf r; place = placeOf r; count = 0 }
+
+-- the numbers that are due: as many gaps as the row has, or the refusal's
+abbrev pub listDue : Verdict → List ℕ → ListNumbers
+listDue accepted w = record { number = 0; place = 0; count = length (gapsOfRow w) }
+listDue (refused r) w = record { number = numberOf r; place = placeOf r; count = 0 }

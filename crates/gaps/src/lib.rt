@@ -6,7 +6,8 @@ ghost use mathlib.Core.List.{[], _++_};
 ghost use lib.ListN.{length, drop};
 ghost use Rattle.density.specs.Density.{density};
 ghost use Rattle.gaps.specs.Gaps.{fills, rowOfGaps, gapsOfRow, hasGapList};
-ghost use Rattle.gaps.specs.Answers.{rowVerdict, rowAnswer, rowWritten, listVerdict, listAnswer, listWritten};
+ghost use Rattle.gaps.specs.Answers.{rowVerdict, rowAnswer, rowNumbers, rowWritten, listVerdict, listAnswer, listNumbers, listDue, listWritten};
+ghost use Rattle.refusal.specs.Verdicts.{verdictNumbers};
 use refusal::Refusal;
 
 // Whether the row of a gap list was written.
@@ -71,7 +72,9 @@ fn write_row(n: usize, gaps: &[usize], out: &mut [u8])
 
 // Gap list to row.
 pub fn row_of_gaps(n: usize, gaps: &[usize], out: &mut [u8]) -> RowAnswer
-    ensures { λ r. ⌜ (r ≡ rowAnswer (rowVerdict n (now (gaps .entry)) (length (now (out .entry))))) × (now (out .exit) ≡ rowWritten (rowVerdict n (now (gaps .entry)) (length (now (out .entry)))) n (now (gaps .entry)) (now (out .entry))) ⌝ }
+    ensures answer { λ r. ⌜ r ≡ rowAnswer (rowVerdict n (now (gaps .entry)) (length (now (out .entry)))) ⌝ }
+    ensures numbers { λ r. ⌜ rowNumbers r ≡ verdictNumbers (rowVerdict n (now (gaps .entry)) (length (now (out .entry)))) ⌝ }
+    ensures buffer { λ _. ⌜ now (out .exit) ≡ rowWritten (rowVerdict n (now (gaps .entry)) (length (now (out .entry)))) n (now (gaps .entry)) (now (out .entry)) ⌝ }
 {
     if !refusal::are_stations(n) {
         return RowAnswer::NoRow(Refusal::Stations);
@@ -103,7 +106,8 @@ fn has_gap_list(row: &[u8], holes: usize) -> bool
 // The gaps of a row to the front of a buffer; how many there are.
 fn write_gaps(row: &[u8], out: &mut [usize]) -> usize
     requires { ⌜ length (gapsOfRow (now row)) ≤ length (now out) ⌝ }
-    ensures { λ r. ⌜ (r ≡ length (gapsOfRow (now (row .entry)))) × (now (out .exit) ≡ gapsOfRow (now (row .entry)) ++ drop (length (gapsOfRow (now (row .entry)))) (now (out .entry))) ⌝ }
+    ensures count { λ r. ⌜ r ≡ length (gapsOfRow (now (row .entry))) ⌝ }
+    ensures buffer { λ _. ⌜ now (out .exit) ≡ gapsOfRow (now (row .entry)) ++ drop (length (gapsOfRow (now (row .entry)))) (now (out .entry)) ⌝ }
 {
     let mut k: usize = 0;
     let mut zeros: usize = 0;
@@ -123,7 +127,9 @@ fn write_gaps(row: &[u8], out: &mut [usize]) -> usize
 
 // Row to gap list.
 pub fn gaps_of_row(row: &[u8], out: &mut [usize]) -> ListAnswer
-    ensures { λ r. ⌜ (r ≡ listAnswer (listVerdict (now (row .entry)) (length (now (out .entry)))) (now (row .entry))) × (now (out .exit) ≡ listWritten (listVerdict (now (row .entry)) (length (now (out .entry)))) (now (row .entry)) (now (out .entry))) ⌝ }
+    ensures answer { λ r. ⌜ r ≡ listAnswer (listVerdict (now (row .entry)) (length (now (out .entry)))) (now (row .entry)) ⌝ }
+    ensures numbers { λ r. ⌜ listNumbers r ≡ listDue (listVerdict (now (row .entry)) (length (now (out .entry)))) (now (row .entry)) ⌝ }
+    ensures buffer { λ _. ⌜ now (out .exit) ≡ listWritten (listVerdict (now (row .entry)) (length (now (out .entry)))) (now (row .entry)) (now (out .entry)) ⌝ }
 {
     let n = row.len();
     if !refusal::are_stations(n) {

@@ -11,12 +11,13 @@ use native.Mathlib.Omega.{arith}
 use lib.ListN.{List·getD-append, drop, getD, getD-replicate, length, length-append, take}
 use lib.Seq.{getD-at, getD-take, take-append-le}
 use Rattle.density.specs.Balanced.{balancedFrom}
-use Rattle.prefix.proofs.BalancedSteps.{Error, fit-higher, fit-long, fit-lower, fit-same, stays, steps}
+use Rattle.prefix.proofs.BalancedSteps.{Error, fit-higher, fit-long, fit-lower, fit-same, fits-none, fits-some, stays, steps}
+use Rattle.prefix.specs.Search.{fits}
 use Rattle.words.proofs.Below.{le-or}
 use Rattle.words.proofs.Zeros.{zeros-more}
 use Rattle.words.specs.Order.{le}
 use Rattle.words.specs.Scan.{Leading, _▹_}
-use Rattle.words.specs.Symbols.{zeros}
+use Rattle.words.specs.Symbols.{sum, zeros}
 
 module _ (a : List ℕ) (z : ℕ) (q : Leading a z) where
   more-by : (b : ℕ) → length (a ▹ b) ≡ suc (length a)
@@ -81,7 +82,7 @@ module _ (g : List ℕ) (m e z : ℕ) (q : Leading g z) (h : z < length g) (pos 
       go ih (inl t) = fit-lower g m e k (omega arith) (within k p some) (omega (arith, zero-at k (omega arith), at-one k p t))
       go ih (inr t) = fit-same g m e k (omega arith) (within k p some) (zero-at k (omega arith) ∙ sym (at-zero k t)) ∙ ih t
 
-  pub product-yes : m ≤ z * e → le g (balancedFrom m e 0 (m - 0)) ≡ true
+  product-yes : m ≤ z * e → le g (balancedFrom m e 0 (m - 0)) ≡ true
   product-yes u = climb z 0 (zero-add z) u (omega arith)
 
   pub product-not : suc z * e < m → le g (balancedFrom m e 0 (m - 0)) ≡ false
@@ -100,6 +101,11 @@ module _ (g : List ℕ) (m e z : ℕ) (q : Leading g z) (h : z < length g) (pos 
       some : (e : ℕ) → m ≤ suc z * e → 0 < e
       some zero t = absurd (omega arith)
       some (suc e) t = omega arith
+
+-- so many zeros for each 1 to come reach as far as the symbols to come
+pub product-fits : (g : List ℕ) (m d h z : ℕ) → Leading g z → z < length g → h ≡ sum g → h ≤ d → d - h ≤ m → m ≤ z * (d - h) → fits d m g ≡ true
+product-fits g zero d h z q i e k l u = fits-none d g (omega arith)
+product-fits g (suc m) d h z q i e k l u = fits-some d (suc m) h g e (omega arith) k l ∙ product-yes g (suc m) (d - h) z q i (omega arith) l u
 
 -- the three ways through the search's loop
 pub lead-on : {a : List ℕ} {z : ℕ} (c i z′ : ℕ) → Leading a z → length a ≡ i → c ≡ 0 → z ≡ i → z′ ≡ i + 1 → Leading (a ▹ c) z′

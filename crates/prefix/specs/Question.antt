@@ -1,5 +1,5 @@
 -- "Prefix question on (n, d, prefix): does some kind 1 ring of the drawer begin so?"
-use mathlib.Core.Bool.{Bool}
+use mathlib.Core.Bool.{Bool, false}
 use mathlib.Core.List.{List}
 use Prim.Native.Nat.{ℕ}
 use lib.ListN.{length}
@@ -21,7 +21,20 @@ abbrev pub questionAnswer : Verdict → ℕ → ℕ → List ℕ → PrefixAnswe
 questionAnswer accepted n d p = Answered (begins n d p)
 questionAnswer (refused r) n d p = Refused r
 
--- document 01's numbers: the refusal or 0, and its place
-abbrev pub questionNumbers : PrefixAnswer → ℕ × ℕ
-questionNumbers (Answered b) = (0, 0)
-questionNumbers (Refused r) = (numberOf r, placeOf r)
+-- ---- document 01's numbers
+
+-- a refusal's number, 0 for none, and its place; yes or no
+pub record QuestionNumbers : Type 0 where
+  pub number : ℕ
+  pub place : ℕ
+  pub begun : Bool
+
+-- the numbers of each case of the answer: beside a refusal no yes is said
+abbrev pub questionNumbers : PrefixAnswer → QuestionNumbers
+questionNumbers (Answered b) = record { number = 0; place = 0; begun = b }
+questionNumbers (Refused r) = record { number = numberOf r; place = placeOf r; begun = false }
+
+-- the numbers that are due: whether "some kind 1 ring of the drawer begins so", or the refusal's
+abbrev pub questionDue : Verdict → ℕ → ℕ → List ℕ → QuestionNumbers
+questionDue accepted n d p = record { number = 0; place = 0; begun = begins n d p }
+questionDue (refused r) n d p = record { number = numberOf r; place = placeOf r; begun = false }

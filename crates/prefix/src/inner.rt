@@ -21,9 +21,6 @@ fn goes_on(g: &[u8], m: usize, d: usize, h: usize, z: usize) -> bool
     if m < e {
         return false;
     }
-    if m == 0 {
-        return true;
-    }
     if m <= z * e {
         return true;
     }
@@ -115,12 +112,12 @@ fn ruled_out(n: usize, d: usize, prefix: &[u8], h: usize, z: usize) -> bool
         return true;
     }
     let e = d - h;
-    let m = n - prefix.len();
-    if m < e {
+    let more = n - prefix.len();
+    if more < e {
         return true;
     }
     if z < prefix.len() {
-        return (z + 1) * e < m;
+        return (z + 1) * e < more;
     }
     false
 }

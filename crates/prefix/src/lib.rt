@@ -2,7 +2,7 @@
 pub mod inner;
 
 ghost use mathlib.Core.Path.{_≡_};
-ghost use Rattle.prefix.specs.Question.{questionVerdict, questionAnswer};
+ghost use Rattle.prefix.specs.Question.{questionVerdict, questionAnswer, questionNumbers, questionDue};
 use refusal::Refusal;
 
 // Yes or no, or a refusal.
@@ -13,7 +13,8 @@ pub enum PrefixAnswer {
 
 // The prefix question.
 pub fn ask(n: usize, d: usize, prefix: &[u8]) -> PrefixAnswer
-    ensures { λ r. ⌜ r ≡ questionAnswer (questionVerdict n d (now (prefix .entry))) n d (now (prefix .entry)) ⌝ }
+    ensures answer { λ r. ⌜ r ≡ questionAnswer (questionVerdict n d (now (prefix .entry))) n d (now (prefix .entry)) ⌝ }
+    ensures numbers { λ r. ⌜ questionNumbers r ≡ questionDue (questionVerdict n d (now (prefix .entry))) n d (now (prefix .entry)) ⌝ }
 {
     if !refusal::are_stations(n) {
         return PrefixAnswer::Refused(Refusal::Stations);

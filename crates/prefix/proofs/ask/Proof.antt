@@ -1,10 +1,10 @@
 -- `prefix::ask` meets its contract: each return has passed the tests before it.
 use mathlib.Core.Bool.{true}
-use mathlib.Core.Path.{ap, sym, _∙_, _≡_}
+use mathlib.Core.Path.{ap, refl, sym, _∙_, _≡_}
 use borrow.Author.Needs.{needs}
 use borrow.Author.Tests.{not-false, not-true}
-use Rattle.prefix.proofs.Places.{taken}
 use Rattle.prefix.proofs.Refused.{ask-accepted, ask-holes, ask-prefix, ask-stations, ask-symbol, right-symbols}
+use Rattle.prefix.specs.Question.{questionNumbers}
 use Rattle.prefix.specs.declared.PrefixAnswer.the-variants.{Answered}
 use Rattle.refusal.proofs.Stations.{stations→}
 use Rattle.refusal.specs.Verdicts.{areStations}
@@ -18,24 +18,24 @@ sized c = sym (c .before .are-stations .ensures) ∙ not-false _ (c .if1 .left)
 returns : tie.Need-returns
 returns c =
     let a = c .before .before .before .args in
-    rw (ask-stations (a .n) (a .d) (a .prefix .now) (sym (c .before .are-stations .ensures) ∙ not-true _ (c .if1 .taken)))
+    rw (ask-stations (a .n) (a .d) (a .prefix .now) (sym (c .before .are-stations .ensures) ∙ not-true _ (c .if1 .taken))) (refl, refl)
 
 returns-2 : tie.Need-returns-2
 returns-2 c =
     let a = c .before .before .before .before .args in
-    rw (ask-holes (a .n) (a .d) (a .prefix .now) (sized (c .before)) (c .if2 .taken))
+    rw (ask-holes (a .n) (a .d) (a .prefix .now) (sized (c .before)) (c .if2 .taken)) (refl, refl)
 
 returns-3 : tie.Need-returns-3
 returns-3 c =
     let a = c .before .before .before .before .before .args in
-    rw (ask-prefix (a .n) (a .d) (a .prefix .now) (sized (c .before .before)) (c .before .if2 .left) (c .if3 .taken))
+    rw (ask-prefix (a .n) (a .d) (a .prefix .now) (sized (c .before .before)) (c .before .if2 .left) (c .if3 .taken)) (refl, refl)
 
 returns-4 : tie.Need-returns-4
 returns-4 c =
     let b = c .before .before in
     let a = b .before .before .before .before .before .args in
     let e = c .before .first-wrong .ensures in
-    rw (e, ask-symbol (a .n) (a .d) (a .prefix .now) (sized (b .before .before)) (b .before .if2 .left) (b .if3 .left) (λ z. c .if4 .taken (e ∙ z)))
+    rw (e, ask-symbol (a .n) (a .d) (a .prefix .now) (sized (b .before .before)) (b .before .if2 .left) (b .if3 .left) (λ z. c .if4 .taken (e ∙ z))) (refl, refl)
 
 begins-necklace-requires : tie.Need-begins-necklace-requires
 begins-necklace-requires c κs =
@@ -50,7 +50,7 @@ returns-5 c =
     let b = f .before in
     let a = b .before .before .before .before .before .args in
     rw (ask-accepted (a .n) (a .d) (a .prefix .now) (sized (b .before .before)) (b .before .if2 .left) (b .if3 .left) (sym (f .first-wrong .ensures) ∙ c .before .if4 .left))
-    (ap Answered (c .begins-necklace .ensures))
+    (let e = c .begins-necklace .ensures in (ap Answered e, ap (λ b. questionNumbers (Answered b)) e))
 
 pub ask-spec : {M : Type 1} → statement M
 ask-spec = tie.close (tie.spec (λ c κs. search needs) returns returns-2 returns-3 (λ c κs. search needs) returns-4 begins-necklace-requires returns-5)

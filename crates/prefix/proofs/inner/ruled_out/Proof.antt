@@ -15,14 +15,8 @@ use Rattle.prefix.proofs.inner.ruled_out.Tie as tie
 returns : tie.Need-returns
 returns c κ = let args = c .before .args in too-many (args .n) (args .d) (args .prefix .now) (omega arith) (omega arith)
 
-sub-m : tie.Need-sub-m
-sub-m c = search needs
-
 returns-2 : tie.Need-returns-2
 returns-2 c κ = let args = c .before .before .args in too-few (args .n) (args .d) (args .prefix .now) (omega arith) (omega arith)
-
-add-result : tie.Need-add-result
-add-result c = search needs
 
 mul-result : tie.Need-mul-result
 mul-result c =
@@ -46,4 +40,4 @@ returns-4 c κ = absurd (false≢true κ)
 
 pub ruled-out-spec : {M : Type 1} → statement M
 ruled-out-spec =
-    tie.close (tie.spec returns sub-m returns-2 add-result mul-result returns-3 returns-4)
+    tie.close (tie.spec returns (λ c. search needs) returns-2 (λ c. search needs) mul-result returns-3 returns-4)

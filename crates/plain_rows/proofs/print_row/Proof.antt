@@ -1,0 +1,27 @@
+-- `plain_rows::print_row` is safe and ends.
+use Prim.Native.Nat.{_≤_, _-_}
+use borrow.Author.Needs.{needs}
+use Rattle.plain_rows.proofs.print_row.Statement.{statement}
+use Rattle.plain_rows.proofs.print_row.Tie as tie
+
+abbrev Inv-loop : tie.InvT-loop
+Inv-loop n row i₀ t4 i = i ≤ n
+
+abbrev μ-loop : tie.MeasureT-loop
+μ-loop n row i₀ t4 i = n - i
+
+pub print-row-spec : {M : Type 1} → statement M
+print-row-spec =
+    tie.close
+    (tie.spec
+    Inv-loop
+    μ-loop
+    (λ c. search needs)
+    (λ c. search needs)
+    (λ c. search needs)
+    (λ c κs. search needs)
+    (λ c κs. search needs)
+    (λ c. search needs)
+    (λ c. search needs)
+    (λ c. search needs)
+    (λ c. search needs))

@@ -1,0 +1,130 @@
+// Rows for the test programs: written as digits or numbered, and searched in the plainest way.
+use refusal::Refusal;
+ghost use Prim.Native.Nat.{_<_, _≤_};
+ghost use lib.ListN.{length};
+
+fn wide(x: u8) -> usize {
+    x as usize
+}
+
+pub fn print_named(name: &[u8], n: usize) {
+    io::write_all(1, name);
+    io::print_decimal(1, n as u64);
+}
+
+pub fn print_refusal(r: Refusal) {
+    print_named(b"refused ", wide(refusal::number(r)));
+    print_named(b" place ", refusal::place(r));
+}
+
+pub fn one_if(holds: bool) -> usize
+    ensures { λ r. ⌜ r ≤ 1 ⌝ }
+{
+    if holds { 1 } else { 0 }
+}
+
+// The row of some digits.
+pub fn symbols(digits: &[u8]) -> [u8; 80]
+    requires { ⌜ length (now digits) ≤ 80 ⌝ }
+{
+    let mut row = [0u8; 80];
+    let mut i: usize = 0;
+    while i < digits.len() {
+        row[i] = digits[i] % 16;
+        i += 1;
+    }
+    row
+}
+
+pub fn print_row(n: usize, row: &[u8; 80]) {
+    let mut i: usize = 0;
+    while i < n {
+        if i < 80 {
+            print_named(b"", wide(row[i]));
+        }
+        i += 1;
+    }
+}
+
+// How many rows of n stations there are, n up to 10.
+pub fn count_rows(n: usize) -> usize
+    ensures { λ r. ⌜ r ≤ 1024 ⌝ }
+{
+    match n {
+        0 => 1,
+        1 => 2,
+        2 => 4,
+        3 => 8,
+        4 => 16,
+        5 => 32,
+        6 => 64,
+        7 => 128,
+        8 => 256,
+        9 => 512,
+        10 => 1024,
+        _ => 0,
+    }
+}
+
+// The row of n stations whose symbols are the last binary digits of a number.
+pub fn row_of_number(n: usize, number: usize) -> [u8; 64]
+    requires { ⌜ n ≤ 64 ⌝ }
+{
+    let mut row = [0u8; 64];
+    let mut rest = number;
+    let mut i = n;
+    while 0 < i {
+        i -= 1;
+        if rest % 2 == 1 {
+            row[i] = 1;
+        }
+        rest /= 2;
+    }
+    row
+}
+
+// The symbol at a place of the row that is read on and on.
+pub fn symbol(row: &[u8; 64], n: usize, i: usize) -> u8
+    requires { ⌜ 0 < n ⌝ }
+    requires { ⌜ n ≤ 64 ⌝ }
+{
+    row[i % n]
+}
+
+// Turn j against turn i, place by place: 0 lower, 1 the same, 2 higher.
+pub fn turn_order(row: &[u8; 64], n: usize, j: usize, i: usize) -> u8
+    requires { ⌜ 0 < n ⌝ }
+    requires { ⌜ n ≤ 64 ⌝ }
+    requires { ⌜ j ≤ 64 ⌝ }
+    requires { ⌜ i ≤ 64 ⌝ }
+{
+    let mut k: usize = 0;
+    while k < n {
+        let x = symbol(row, n, j + k);
+        let y = symbol(row, n, i + k);
+        if x < y {
+            return 0;
+        }
+        if y < x {
+            return 2;
+        }
+        k += 1;
+    }
+    1
+}
+
+// Whether no turn lies below turn j.
+pub fn is_least(row: &[u8; 64], n: usize, j: usize) -> bool
+    requires { ⌜ 0 < n ⌝ }
+    requires { ⌜ n ≤ 64 ⌝ }
+    requires { ⌜ j ≤ 64 ⌝ }
+{
+    let mut i: usize = 0;
+    while i < n {
+        if turn_order(row, n, i, j) == 0 {
+            return false;
+        }
+        i += 1;
+    }
+    true
+}

@@ -1,0 +1,16 @@
+-- `prefix_test::compare_all` is safe and ends.
+use Prim.Native.Nat.{_≤_, _-_}
+use borrow.Author.Needs.{needs}
+use Rattle.prefix_test.proofs.compare_all.Statement.{statement}
+use Rattle.prefix_test.proofs.compare_all.Tie as tie
+
+abbrev Inv-loop : tie.InvT-loop
+Inv-loop n₀ n = (1 ≤ n) × (n ≤ 11)
+
+abbrev μ-loop : tie.MeasureT-loop
+μ-loop n₀ n = 11 - n
+
+pub compare-all-spec : {M : Type 1} → statement M
+compare-all-spec =
+    tie.close
+    (tie.spec Inv-loop μ-loop (λ c. search needs) (λ c κs. search needs) (λ c. search needs) (λ c. search needs) (λ c. search needs) (λ c. search needs))
