@@ -1,17 +1,17 @@
 -- The refusals of opening, in their order.
 use mathlib.Core.Bool.{false, true}
 use mathlib.Core.List.{List, []}
-use mathlib.Core.Path.{ap, sym, _≡_}
+use mathlib.Core.Path.{ap, refl, sym, _∙_, _≡_}
 use Prim.Native.Nat.{ℕ, _<_, _≤_}
 use lib.ListN.{length}
 use borrow.Author.Tests.{eq-eqb, le-leb, lt-leb, ne-eqb}
 use Rattle.density.specs.Necklaces.{isKind}
-use Rattle.refusal.specs.Verdicts.{Verdict, accepted, areStations}
+use Rattle.refusal.specs.Verdicts.{Verdict, accepted, areStations, verdictNumbers}
 use Rattle.refusal.specs.declared.Refusal.{Refusal}
 use Rattle.refusal.specs.declared.Refusal.the-variants.{Holes, Kind, Stations, Symbol}
 use Rattle.walk.specs.Listing.{refused}
-use Rattle.walk.specs.Moves.{rules}
-use Rattle.walk.specs.Opening.{openAnswer, openVerdict}
+use Rattle.walk.specs.Moves.{answer, rules}
+use Rattle.walk.specs.Opening.{openAnswer, openNumbers, openVerdict}
 use Rattle.walk.specs.declared.Opened.{Opened}
 use Rattle.words.specs.Symbols.{firstWrong}
 use Rattle.refusal.specs.declared.Refusal.the-variants.{Limit as LimitLength}
@@ -20,6 +20,14 @@ module _ (n d kind : ℕ) (limit : List ℕ) where
   -- what opening answers
   abbrev pub opening : Opened
   opening = openAnswer (openVerdict n d kind limit) rules n d kind limit
+
+  -- an answer has document 01's numbers
+  pub with-numbers : (r : Opened) → r ≡ opening → (r ≡ opening) × (openNumbers (r .answer) ≡ verdictNumbers (openVerdict n d kind limit))
+  with-numbers r e = (e, ap (λ o. openNumbers (o .answer)) e ∙ go (openVerdict n d kind limit))
+    where
+      go : (v : Verdict) → openNumbers (openAnswer v rules n d kind limit .answer) ≡ verdictNumbers v
+      go accepted = refl
+      go (Verdict.refused r) = refl
 
   -- a refusal's walk does not depend on the input
   refuses : (r : Refusal) → openVerdict n d kind limit ≡ Verdict.refused r → openAnswer (Verdict.refused r) rules 0 0 0 [] ≡ opening

@@ -8,9 +8,9 @@ ghost use Prim.Native.Nat.{_≤_, _<_};
 ghost use Rattle.walk.specs.Moves.{rules};
 ghost use Rattle.walk.specs.Fit.{fit, fitSizes, fitRow, fitAt};
 ghost use Rattle.walk.specs.Step.{stepOf, stepped};
-ghost use Rattle.walk.specs.Opening.{openVerdict, openAnswer};
+ghost use Rattle.walk.specs.Opening.{openVerdict, openAnswer, openNumbers};
 ghost use Rattle.walk.specs.Phases.{goneBelow, Fitting};
-ghost use Rattle.refusal.specs.Verdicts.{Verdict};
+ghost use Rattle.refusal.specs.Verdicts.{Verdict, verdictNumbers};
 ghost use mathlib.Core.List.{[]};
 
 // Where a walk stands.
@@ -112,7 +112,8 @@ fn answered(
 impl Walk {
     // Opens a walk of the necklaces of (n, d) of a kind, at or below a limit.
     pub fn open(n: usize, d: usize, kind: u8, limit: &[u8]) -> Opened
-        ensures { λ r. ⌜ r ≡ openAnswer (openVerdict n d kind (now (limit .entry))) rules n d kind (now (limit .entry)) ⌝ }
+        ensures answer { λ r. ⌜ r ≡ openAnswer (openVerdict n d kind (now (limit .entry))) rules n d kind (now (limit .entry)) ⌝ }
+        ensures numbers { λ r. ⌜ openNumbers (r .answer) ≡ verdictNumbers (openVerdict n d kind (now (limit .entry))) ⌝ }
     {
         if !refusal::are_stations(n) {
             return not_open(Refusal::Stations);
