@@ -88,20 +88,6 @@ fn search_from(
     false
 }
 
-// How many ones a has. A sum of bytes: the loop runs on vectors.
-fn count(a: &[u8]) -> usize
-    requires { ⌜ (length (now a) ≤ 64) × Symbols (now a) ⌝ }
-    ensures { λ r. ⌜ (r ≡ sum (now (a .entry))) × (r ≤ length (now (a .entry))) ⌝ }
-{
-    let mut h: u8 = 0;
-    let mut i: usize = 0;
-    while i < a.len() {
-        h += a[i];
-        i += 1;
-    }
-    h as usize
-}
-
 // Whether the counts rule a prefix out, which has h ones and begins with z zeros: too many or too few ones are to come,
 // or too few for so many places, since no run of zeros is longer than the first.
 fn ruled_out(n: usize, d: usize, prefix: &[u8], h: usize, z: usize) -> bool
@@ -131,7 +117,7 @@ pub fn begins_necklace(n: usize, d: usize, prefix: &[u8]) -> bool
     if t == 0 {
         return true;
     }
-    let h = count(prefix);
+    let h = density::count::sum_ones(prefix);
     let z = words::inner::leading_zeros(prefix);
     if ruled_out(n, d, prefix, h, z) {
         return false;

@@ -28,8 +28,8 @@ returns c =
     let args = c .before .before .args in
     sym (asked (c .before .before) ∙ asks-empty (args .n) (args .d) (args .prefix .now) (c .if1 .taken))
 
-count-requires : tie.Need-count-requires Inv-loop μ-loop
-count-requires c κs = search needs
+sum-ones-requires : tie.Need-sum-ones-requires Inv-loop μ-loop
+sum-ones-requires c κs = search needs
 
 leading-zeros-requires : tie.Need-leading-zeros-requires Inv-loop μ-loop
 leading-zeros-requires c κs = search needs
@@ -91,7 +91,7 @@ copied c =
 search-from-requires : tie.Need-search-from-requires Inv-loop μ-loop
 search-from-requires c κs =
     let found = c .before .before .before .prefix-period in
-    let h = c .before .before .before .before .before .before .before .count in (
+    let h = c .before .before .before .before .before .before .before .sum-ones in (
       omega arith,
       found .ensures .1,
       omega arith,
@@ -118,7 +118,7 @@ begins-necklace-spec =
     Inv-loop
     μ-loop
     returns
-    count-requires
+    sum-ones-requires
     leading-zeros-requires
     ruled-out-requires
     returns-2
