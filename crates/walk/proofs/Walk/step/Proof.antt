@@ -28,9 +28,6 @@ abbrev μ-loop : tie.MeasureT-loop
 row-64 : (c : tie.Start Inv-loop μ-loop) → length (c .args .self .row) ≡ 64
 row-64 c = rw length-map at (c .good .0 .1 .1 .1 .1 .1 .0 .1 .0 .1)
 
-fit-requires : tie.Need-fit-requires Inv-loop μ-loop
-fit-requires c κs = search needs
-
 returns : tie.Need-returns Inv-loop μ-loop
 returns c = unfit-step _ _ (sym (c .before .fit .ensures) ∙ not-true _ (c .if1 .taken))
 
@@ -38,12 +35,6 @@ loop-holds : tie.Need-loop-holds Inv-loop μ-loop
 loop-holds c = going-first _ _ (sym (c .before .before .fit .ensures) ∙ not-false _ (c .before .if1 .left)) (row-64 (c .before .before .before))
 
 -- ---- Limit
-
-enum-told : tie.Need-enum-told Inv-loop μ-loop
-enum-told c = search needs
-
-array-share-prefix-row : tie.Need-array-share-prefix-row Inv-loop μ-loop
-array-share-prefix-row c = search needs
 
 slice-aggregate-from-limit : tie.Need-slice-aggregate-from-limit Inv-loop μ-loop
 slice-aggregate-from-limit c = let g = c .before .before .before .loop .inv in sym (length-take-le _ _ (omega (arith, going-long g, g .sound .most)))
@@ -59,14 +50,8 @@ loop-again c = turn-limit (c .before .before .before .before .loop .inv) (c .bef
 
 -- ---- Down p
 
-enum-known-at : tie.Need-enum-known-at Inv-loop μ-loop
-enum-known-at c = search needs
-
 sub-answered : tie.Need-sub-answered Inv-loop μ-loop
 sub-answered c = c .before .before .before .before .loop .inv .fits
-
-answered-requires : tie.Need-answered-requires Inv-loop μ-loop
-answered-requires c κs = search needs
 
 returns-2 : tie.Need-returns-2 Inv-loop μ-loop
 returns-2 c = c .answered .ensures ∙ turn-none (c .before .before .before .before .before .loop .inv) (c .before .before .before .at .given .1 ∙ ap Down (c .before .if2 .taken))
@@ -82,9 +67,6 @@ sub-answered-2 c =
     let e = c .before .before .before .before .before .at .given .1 in
     let r = down-resumed g _ e (omega (arith, c .before .before .before .if2 .left)) _ (c .before .before .descend .ensures) in
     omega (arith, r .left, g .fits)
-
-answered-requires-2 : tie.Need-answered-requires-2 Inv-loop μ-loop
-answered-requires-2 c κs = search needs
 
 returns-3 : tie.Need-returns-3 Inv-loop μ-loop
 returns-3 c =
@@ -109,12 +91,6 @@ loop-again-2 c =
 
 -- ---- Up p, beyond n
 
-enum-known-at-2 : tie.Need-enum-known-at-2 Inv-loop μ-loop
-enum-known-at-2 c = search needs
-
-array-share-prefix-row-2 : tie.Need-array-share-prefix-row-2 Inv-loop μ-loop
-array-share-prefix-row-2 c = search needs
-
 slice-aggregate-of-kind : tie.Need-slice-aggregate-of-kind Inv-loop μ-loop
 slice-aggregate-of-kind c = let g = c .before .before .before .before .before .loop .inv in sym (length-take-le _ _ (omega (arith, going-long g, g .sound .most)))
 
@@ -125,9 +101,6 @@ of-kind-requires c κs =
 
 sub-answered-3 : tie.Need-sub-answered-3 Inv-loop μ-loop
 sub-answered-3 c = c .before .before .before .before .before .before .before .loop .inv .fits
-
-answered-requires-3 : tie.Need-answered-requires-3 Inv-loop μ-loop
-answered-requires-3 c κs = search needs
 
 returns-4 : tie.Need-returns-4 Inv-loop μ-loop
 returns-4 c = c .answered3 .ensures ∙ turn-ring (c .before .before .before .before .before .before .before .before .loop .inv) _ (c .before .before .before .before .before .before .at2 .given .1) (c .before .before .before .before .if4 .taken) (sym (c .before .before .of-kind .ensures) ∙ c .before .if5 .taken)
@@ -153,9 +126,6 @@ sub-answered-4 c =
     let r = up-resumed g _ e (c .before .before .before .if4 .left) _ (c .before .before .ascend .ensures) in
     omega (arith, r .left, g .fits)
 
-answered-requires-4 : tie.Need-answered-requires-4 Inv-loop μ-loop
-answered-requires-4 c κs = search needs
-
 returns-5 : tie.Need-returns-5 Inv-loop μ-loop
 returns-5 c =
     let g = c .before .before .before .before .before .before .before .before .loop .inv in
@@ -179,12 +149,6 @@ loop-again-4 c =
 
 -- ---- Given
 
-enum-told-2 : tie.Need-enum-told-2 Inv-loop μ-loop
-enum-told-2 c = search needs
-
-below-requires : tie.Need-below-requires Inv-loop μ-loop
-below-requires c κs = search needs
-
 loop-less-5 : tie.Need-loop-less-5 Inv-loop μ-loop
 loop-less-5 c = turn-given (c .before .before .before .before .loop .inv) (c .before .before .enum-told2 .given .1) _ (c .before .below .ensures) .1
 
@@ -193,14 +157,8 @@ loop-again-5 c = turn-given (c .before .before .before .before .loop .inv) (c .b
 
 -- ---- Ended
 
-enum-told-3 : tie.Need-enum-told-3 Inv-loop μ-loop
-enum-told-3 c = search needs
-
 sub-answered-5 : tie.Need-sub-answered-5 Inv-loop μ-loop
 sub-answered-5 c = c .before .before .loop .inv .fits
-
-answered-requires-5 : tie.Need-answered-requires-5 Inv-loop μ-loop
-answered-requires-5 c κs = search needs
 
 returns-6 : tie.Need-returns-6 Inv-loop μ-loop
 returns-6 c = c .answered5 .ensures ∙ turn-ended (c .before .before .before .loop .inv) (c .before .enum-told3 .given .1)
@@ -211,45 +169,45 @@ step-spec =
     (tie.spec
     Inv-loop
     μ-loop
-    fit-requires
+    (λ c κs. search needs)
     returns
     loop-holds
-    enum-told
-    array-share-prefix-row
+    (λ c. search needs)
+    (λ c. search needs)
     slice-aggregate-from-limit
     from-limit-requires
     loop-less
     loop-again
-    enum-known-at
+    (λ c. search needs)
     sub-answered
-    answered-requires
+    (λ c κs. search needs)
     returns-2
     descend-requires
     sub-answered-2
-    answered-requires-2
+    (λ c κs. search needs)
     returns-3
     loop-less-2
     loop-again-2
-    enum-known-at-2
-    array-share-prefix-row-2
+    (λ c. search needs)
+    (λ c. search needs)
     slice-aggregate-of-kind
     of-kind-requires
     sub-answered-3
-    answered-requires-3
+    (λ c κs. search needs)
     returns-4
     loop-less-3
     loop-again-3
     ascend-requires
     sub-answered-4
-    answered-requires-4
+    (λ c κs. search needs)
     returns-5
     loop-less-4
     loop-again-4
-    enum-told-2
-    below-requires
+    (λ c. search needs)
+    (λ c κs. search needs)
     loop-less-5
     loop-again-5
-    enum-told-3
+    (λ c. search needs)
     sub-answered-5
-    answered-requires-5
+    (λ c κs. search needs)
     returns-6)
