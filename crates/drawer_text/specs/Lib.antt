@@ -1,0 +1,3 @@
+-- The drawer program's text: its parts, its input, its lines.
+pub mod Parts
+pub mod Input
