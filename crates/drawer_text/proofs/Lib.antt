@@ -8,3 +8,7 @@ pub mod ValueLines
 pub mod Inputs
 -- what is written into a buffer
 pub mod Written
+-- the digits of a number
+pub mod Digits
+-- lines, piece by piece
+pub mod Filling
