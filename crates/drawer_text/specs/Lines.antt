@@ -1,0 +1,80 @@
+-- The drawer program's printed lines: "single spaces", each ended by a line feed.
+use mathlib.Core.Bool.{Bool, true, false, cond}
+use mathlib.Core.List.{List, [], _∷_, _++_, map}
+use Prim.Native.Nat.{ℕ, zero, suc, _+_, _/_, _%_}
+use lib.Dec.{eqb, leb, ltb}
+use lib.ListN.{length, drop, take}
+use Rattle.refusal.specs.declared.Refusal.{Refusal}
+use Rattle.refusal.specs.Refusals.{numberOf, placeOf}
+use Rattle.drawer_text.specs.Parts.{space, feed, zeroDigit}
+
+-- ---- numbers
+
+-- the decimal digits of n, by at most f divisions by 10
+unfoldable pub decimalBy : ℕ → ℕ → List ℕ
+decimalBy zero n = (zeroDigit + n) ∷ []
+decimalBy (suc f) n =
+    let tens = decimalBy f (n / 10) ++ ((zeroDigit + n % 10) ∷ []) in
+    cond (ltb n 10) ((zeroDigit + n) ∷ []) tens
+
+-- the decimal digits of n: no leading zero, and 0 is one digit
+unfoldable pub decimal : ℕ → List ℕ
+decimal n = decimalBy n n
+
+-- a number and the byte behind it
+unfoldable pub field : ℕ → ℕ → List ℕ
+field n end = decimal n ++ (end ∷ [])
+
+-- ---- rows
+
+-- "The characters 0 and 1 stand for the symbols."
+abbrev pub characterOf : ℕ → ℕ
+characterOf x = cond (eqb x 0) 48 49
+
+-- a row and the space behind it
+unfoldable pub rowField : List ℕ → List ℕ
+rowField row = map characterOf row ++ (space ∷ [])
+
+-- ---- lines
+
+-- `number row period trials`
+abbrev pub header : List ℕ
+header = 110 ∷ 117 ∷ 109 ∷ 98 ∷ 101 ∷ 114 ∷ 32 ∷ 114 ∷ 111 ∷ 119 ∷ 32 ∷ 112 ∷ 101 ∷ 114 ∷ 105 ∷ 111 ∷ 100 ∷ 32 ∷ 116 ∷ 114 ∷ 105 ∷ 97 ∷ 108 ∷ 115 ∷ 10 ∷ []
+
+-- "the running number, the row, its period and the trials spent since the line before"
+unfoldable pub ringLine : ℕ → List ℕ → ℕ → ℕ → List ℕ
+ringLine number row period trials = field number space ++ (rowField row ++ (field period space ++ field trials feed))
+
+-- `end - - `
+abbrev pub endMark : List ℕ
+endMark = 101 ∷ 110 ∷ 100 ∷ 32 ∷ 45 ∷ 32 ∷ 45 ∷ 32 ∷ []
+
+-- "The last line is `end - -` and the trials that found none."
+unfoldable pub endLine : ℕ → List ℕ
+endLine trials = endMark ++ field trials feed
+
+-- `refused place`
+abbrev pub refusedNames : List ℕ
+refusedNames = 114 ∷ 101 ∷ 102 ∷ 117 ∷ 115 ∷ 101 ∷ 100 ∷ 32 ∷ 112 ∷ 108 ∷ 97 ∷ 99 ∷ 101 ∷ 10 ∷ []
+
+-- "A refusal prints the line `refused place`, then a line with the two numbers, and nothing else."
+unfoldable pub refusalText : Refusal → List ℕ
+refusalText r = refusedNames ++ (field (numberOf r) space ++ field (placeOf r) feed)
+
+-- ---- a lent buffer
+
+-- a text fills the front of a buffer, and the rest stays
+abbrev pub fronted : List ℕ → List ℕ → List ℕ
+fronted text out = text ++ drop (length text) out
+
+-- a text in a buffer that may be too short: then nothing is written
+abbrev pub written : List ℕ → List ℕ → List ℕ
+written text out = cond (leb (length text) (length out)) (fronted text out) out
+
+-- how many bytes are written
+abbrev pub countOf : List ℕ → ℕ → ℕ
+countOf text room = cond (leb (length text) room) (length text) 0
+
+-- a piece at a place of a buffer
+abbrev pub placed : List ℕ → ℕ → List ℕ → List ℕ
+placed out at piece = (take at out ++ piece) ++ drop (at + length piece) out
