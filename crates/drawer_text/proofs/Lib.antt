@@ -12,3 +12,6 @@ pub mod Written
 pub mod Digits
 -- lines, piece by piece
 pub mod Filling
+-- what is written is read back; document 01's example
+pub mod ReadBack
+pub mod Examples

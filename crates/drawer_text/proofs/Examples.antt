@@ -1,0 +1,32 @@
+-- Document 01's example: its input, and lines that it prints.
+-- `stations holes kind limit` and `6 3 1 111111`
+use mathlib.Core.List.{[], _∷_}
+use mathlib.Core.Path.{refl, _≡_}
+use Rattle.drawer_text.specs.Input.{asked, faulty, limitAt, readDrawer, valuesAt}
+use Rattle.drawer_text.specs.Lines.{decimal, decimalBy, endLine, field, ringLine, rowField}
+use Rattle.drawer_text.specs.Parts.{belongs, isNumeral, numeralAt, run, spacedAt, valueFrom}
+use Rattle.words.specs.Tests.{isPrefix}
+
+pub example-input : readDrawer (115 ∷ 116 ∷ 97 ∷ 116 ∷ 105 ∷ 111 ∷ 110 ∷ 115 ∷ 32 ∷ 104 ∷ 111 ∷ 108 ∷ 101 ∷ 115 ∷ 32 ∷ 107 ∷ 105 ∷ 110 ∷ 100 ∷ 32 ∷ 108 ∷ 105 ∷ 109 ∷ 105 ∷ 116 ∷ 10 ∷ 54 ∷ 32 ∷ 51 ∷ 32 ∷ 49 ∷ 32 ∷ 49 ∷ 49 ∷ 49 ∷ 49 ∷ 49 ∷ 49 ∷ 10 ∷ []) ≡ asked 6 3 1 (1 ∷ 1 ∷ 1 ∷ 1 ∷ 1 ∷ 1 ∷ [])
+unfolding readDrawer valuesAt limitAt spacedAt numeralAt isNumeral valueFrom run belongs isPrefix
+example-input = refl
+
+-- a leading zero
+pub example-fault : readDrawer (115 ∷ 116 ∷ 97 ∷ 116 ∷ 105 ∷ 111 ∷ 110 ∷ 115 ∷ 32 ∷ 104 ∷ 111 ∷ 108 ∷ 101 ∷ 115 ∷ 32 ∷ 107 ∷ 105 ∷ 110 ∷ 100 ∷ 32 ∷ 108 ∷ 105 ∷ 109 ∷ 105 ∷ 116 ∷ 10 ∷ 48 ∷ 54 ∷ 32 ∷ 51 ∷ 32 ∷ 49 ∷ 32 ∷ 49 ∷ 49 ∷ 49 ∷ 49 ∷ 49 ∷ 49 ∷ 10 ∷ []) ≡ faulty 2
+unfolding readDrawer valuesAt limitAt spacedAt numeralAt isNumeral valueFrom run belongs isPrefix
+example-fault = refl
+
+-- `1 010101 2 11`
+pub example-ring : ringLine 1 (0 ∷ 1 ∷ 0 ∷ 1 ∷ 0 ∷ 1 ∷ []) 2 11 ≡ 49 ∷ 32 ∷ 48 ∷ 49 ∷ 48 ∷ 49 ∷ 48 ∷ 49 ∷ 32 ∷ 50 ∷ 32 ∷ 49 ∷ 49 ∷ 10 ∷ []
+unfolding ringLine field rowField decimal decimalBy
+example-ring = refl
+
+-- `end - - 2`
+pub example-end : endLine 2 ≡ 101 ∷ 110 ∷ 100 ∷ 32 ∷ 45 ∷ 32 ∷ 45 ∷ 32 ∷ 50 ∷ 10 ∷ []
+unfolding endLine field decimal decimalBy
+example-end = refl
+
+-- the largest number of 64 bits
+pub example-large : decimal 18446744073709551615 ≡ 49 ∷ 56 ∷ 52 ∷ 52 ∷ 54 ∷ 55 ∷ 52 ∷ 52 ∷ 48 ∷ 55 ∷ 51 ∷ 55 ∷ 48 ∷ 57 ∷ 53 ∷ 53 ∷ 49 ∷ 54 ∷ 49 ∷ 53 ∷ []
+unfolding decimal decimalBy
+example-large = refl
