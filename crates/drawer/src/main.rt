@@ -1,0 +1,122 @@
+// The drawer program: reads a drawer, a kind and a limit, and prints the rings at or below the limit.
+use drawer_text::Request;
+use refusal::Refusal;
+use walk::Answer;
+use walk::OpenAnswer;
+use walk::Walk;
+
+// More trials than a ring takes.
+const ALLOWANCE: u64 = 1000;
+
+// A buffer of 4096 bytes has room for another line up to here.
+const FULL: usize = 3800;
+
+// More rings than can be counted here.
+const MOST_RINGS: u64 = 18446744073709551615;
+
+// Writes the front of a buffer.
+fn print_front(out: &[u8], used: usize) {
+    if used <= out.len() {
+        io::write_all(1, &out[..used]);
+    }
+}
+
+fn print_refusal(r: Refusal) {
+    let mut out = [0u8; 64];
+    let used = drawer_text::write_refusal(r, &mut out);
+    print_front(&out, used);
+}
+
+// A kind that no byte holds is no kind.
+fn kind_byte(kind: usize) -> u8 {
+    if kind < 256 {
+        return kind as u8;
+    }
+    0
+}
+
+// Puts the line of the ring that a walk gave behind what is used of a buffer; how much is used then.
+fn add_ring(walk: Walk, number: u64, trials: u64, used: usize, out: &mut [u8]) -> usize {
+    let n = walk.n;
+    let row = walk.row;
+    if n == 0 {
+        return used;
+    }
+    if 64 < n {
+        return used;
+    }
+    if out.len() < used {
+        return used;
+    }
+    let room = out.len() - used;
+    let period = necklace::inner::necklace_period(&row[..n]);
+    let size = drawer_text::write_ring(number, &row[..n], period as u64, trials, &mut out[used..]);
+    if room < size {
+        return used;
+    }
+    used + size
+}
+
+// Prints the rest of a walk. Lines are gathered, and written when little room is left.
+fn print_rings(mut walk: Walk) {
+    let mut out = io::buffer();
+    let mut used = drawer_text::write_header(&mut out);
+    let mut number: u64 = 0;
+    while number < MOST_RINGS {
+        if FULL < used {
+            print_front(&out, used);
+            used = 0;
+        }
+        let stepped = walk.step(ALLOWANCE);
+        walk = stepped.walk;
+        let trials = stepped.trials;
+        let answer = stepped.answer;
+        match answer {
+            Answer::Ring => {
+                number += 1;
+                used = add_ring(walk, number, trials, used, &mut out);
+            }
+            Answer::None => {
+                print_front(&out, used);
+                let size = drawer_text::write_end(trials, &mut out);
+                print_front(&out, size);
+                return;
+            }
+            Answer::Refused(_) => {
+                return;
+            }
+        }
+    }
+}
+
+// The drawer at or below a limit of some symbols at the front of a buffer.
+fn print_drawer(n: usize, d: usize, kind: usize, size: usize, symbols: &[u8]) {
+    if symbols.len() < size {
+        return;
+    }
+    let opened = Walk::open(n, d, kind_byte(kind), &symbols[..size]);
+    let answer = opened.answer;
+    match answer {
+        OpenAnswer::Open => {
+            print_rings(opened.walk);
+        }
+        OpenAnswer::NotOpen(r) => {
+            print_refusal(r);
+        }
+    }
+}
+
+fn main() {
+    let mut text = [0u8; 257];
+    let got = io::read_full(0, &mut text);
+    let mut limit = [0u8; 256];
+    let request = drawer_text::read_drawer(&text[..got], &mut limit);
+    match request {
+        Request::Drawer(n, d, kind, size) => {
+            print_drawer(n, d, kind, size, &limit);
+        }
+        Request::Refused(r) => {
+            print_refusal(r);
+        }
+    }
+}
