@@ -1,9 +1,10 @@
 // The walk against the book that a plain listing gives, its printed examples, its refusals, and records that no walk hands back.
 mod book;
+mod records;
+mod shown;
 
 use book::Book;
 use walk::Answer;
-use walk::OpenAnswer;
 use walk::Standing;
 use walk::Stepped;
 use walk::Walk;
@@ -12,6 +13,10 @@ ghost use lib.ListN.{length};
 
 // More steps than any of these walks needs.
 const STEPS: usize = 20000;
+
+fn wide(x: u8) -> usize {
+    x as usize
+}
 
 // ---- records
 
@@ -145,6 +150,25 @@ fn allowance_of(pattern: usize, i: usize) -> usize
     }
 }
 
+// Whether a trial is due: at a 1 for Down, or at Up.
+fn is_due(row: &[u8; 64], at: Standing) -> bool {
+    match at {
+        Standing::Down(p) => {
+            if p < 1 {
+                return false;
+            }
+            if 64 < p {
+                return false;
+            }
+            row[p - 1] == 1
+        }
+        Standing::Up(_) => true,
+        Standing::Limit => false,
+        Standing::Given => false,
+        Standing::Ended => false,
+    }
+}
+
 // Whether the walk's row and standing fit the answer.
 fn left_right(number: usize, n: usize, answer: u8, before: Walk, after: Walk) -> bool {
     if 64 < n {
@@ -167,7 +191,7 @@ fn left_right(number: usize, n: usize, answer: u8, before: Walk, after: Walk) ->
             standing_number(at) == 4
         }
         20 => same_walk(before, after),
-        _ => true,
+        _ => is_due(&row, at),
     }
 }
 
@@ -224,6 +248,7 @@ fn compare(n: usize, half: usize, d: usize, kind: u8, limit: usize, pattern: usi
         w = step.walk;
         i += 1;
     }
+    // not ended after so many steps
     counts.differing = STEPS;
     counts
 }
@@ -300,4 +325,8 @@ fn main() {
     show_limits(3);
     io::write_all(1, b"all limits, 0, 1, 2, 3 allowed in turn\n");
     show_limits(4);
+    shown::show_walks();
+    shown::show_refusals();
+    records::show_single();
+    records::show_records();
 }
