@@ -3,8 +3,6 @@ use refusal::Refusal;
 use walk::OpenAnswer;
 use walk::Standing;
 use walk::Walk;
-ghost use Prim.Native.Nat.{_≤_};
-ghost use lib.ListN.{length};
 
 pub fn print_symbols(n: usize, row: &[u8; 64]) {
     let mut i: usize = 0;
@@ -84,9 +82,10 @@ fn print_refused(r: Refusal, w: Walk) {
 }
 
 // A walk at a limit that is written as digits.
-fn show(n: usize, d: usize, kind: u8, digits: &[u8])
-    requires { ⌜ length (now digits) ≤ 80 ⌝ }
-{
+fn show(n: usize, d: usize, kind: u8, digits: &[u8]) {
+    if 80 < digits.len() {
+        return;
+    }
     let row = plain_rows::symbols(digits);
     let t = digits.len();
     let opening = Walk::open(n, d, kind, &row[..t]);
