@@ -1,0 +1,26 @@
+-- `walk_test::same_row` is safe and ends.
+use Prim.Native.Nat.{_≤_, _-_}
+use borrow.Author.Needs.{needs}
+use Rattle.walk_test.proofs.same_row.Statement.{statement}
+use Rattle.walk_test.proofs.same_row.Tie as tie
+
+abbrev Inv-loop : tie.InvT-loop
+Inv-loop row other i₀ i = i ≤ 64
+
+abbrev μ-loop : tie.MeasureT-loop
+μ-loop row other i₀ i = 64 - i
+
+pub same-row-spec : {M : Type 1} → statement M
+same-row-spec =
+    tie.close
+    (tie.spec
+    Inv-loop
+    μ-loop
+    (λ c. search needs)
+    (λ c. search needs)
+    (λ c. search needs)
+    (λ c. search needs)
+    (λ c. search needs)
+    (λ c. search needs)
+    (λ c. search needs)
+    (λ c. search needs))

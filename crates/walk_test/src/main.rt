@@ -1,0 +1,332 @@
+// The walk against the book that a plain listing gives, its printed examples, its refusals, and records that no walk hands back.
+mod book;
+mod records;
+mod shown;
+
+use book::Book;
+use walk::Answer;
+use walk::Standing;
+use walk::Stepped;
+use walk::Walk;
+ghost use Prim.Native.Nat.{_<_, _≤_, _*_};
+ghost use lib.ListN.{length};
+
+// More steps than any of these walks needs.
+const STEPS: usize = 20000;
+
+fn wide(x: u8) -> usize {
+    x as usize
+}
+
+// ---- records
+
+// A ring 0, none 1, or the refusal's number.
+fn answer_number(answer: Answer) -> u8 {
+    match answer {
+        Answer::Ring => 0,
+        Answer::None => 1,
+        Answer::Refused(r) => refusal::number(r),
+    }
+}
+
+// Limit 0, Down 1, Up 2, Given 3, Ended 4.
+fn standing_number(at: Standing) -> u8 {
+    match at {
+        Standing::Limit => 0,
+        Standing::Down(_) => 1,
+        Standing::Up(_) => 2,
+        Standing::Given => 3,
+        Standing::Ended => 4,
+    }
+}
+
+// The place beside Down and Up, else 0.
+fn standing_place(at: Standing) -> usize {
+    match at {
+        Standing::Limit => 0,
+        Standing::Down(p) => p,
+        Standing::Up(p) => p,
+        Standing::Given => 0,
+        Standing::Ended => 0,
+    }
+}
+
+// Whether all 64 bytes are the same.
+fn same_row(row: &[u8; 64], other: &[u8; 64]) -> bool {
+    let mut i: usize = 0;
+    while i < 64 {
+        if row[i] != other[i] {
+            return false;
+        }
+        i += 1;
+    }
+    true
+}
+
+fn same_standing(at: Standing, other: Standing) -> bool {
+    if standing_number(at) != standing_number(other) {
+        return false;
+    }
+    standing_place(at) == standing_place(other)
+}
+
+fn same_walk(w: Walk, other: Walk) -> bool {
+    let row = w.row;
+    let at = w.at;
+    let other_row = other.row;
+    let other_at = other.at;
+    if w.n != other.n {
+        return false;
+    }
+    if w.d != other.d {
+        return false;
+    }
+    if w.kind != other.kind {
+        return false;
+    }
+    if !same_row(&row, &other_row) {
+        return false;
+    }
+    same_standing(at, other_at)
+}
+
+// ---- walks against the book
+
+// What was compared. No count goes above a billion.
+struct Counts {
+    walks: usize,
+    rings: usize,
+    trials: usize,
+    spent: usize,
+    differing: usize,
+}
+
+fn plus(x: usize, y: usize) -> usize {
+    let most: usize = 1000000000;
+    if most < x {
+        return most;
+    }
+    if most < y {
+        return most;
+    }
+    x + y
+}
+
+fn sum(a: Counts, b: Counts) -> Counts {
+    Counts {
+        walks: plus(a.walks, b.walks),
+        rings: plus(a.rings, b.rings),
+        trials: plus(a.trials, b.trials),
+        spent: plus(a.spent, b.spent),
+        differing: plus(a.differing, b.differing),
+    }
+}
+
+fn nothing() -> Counts {
+    Counts {
+        walks: 0,
+        rings: 0,
+        trials: 0,
+        spent: 0,
+        differing: 0,
+    }
+}
+
+// A number of trials to be added up.
+fn few(trials: u64) -> usize {
+    if trials < 1000 { trials as usize } else { 1000 }
+}
+
+// The allowances of a walk: always the same up to 3, the cycle 0, 1, 2, 3, or plenty.
+fn allowance_of(pattern: usize, i: usize) -> usize
+    ensures { λ r. ⌜ r ≤ 1000 ⌝ }
+{
+    match pattern {
+        1 => 1,
+        2 => 2,
+        3 => 3,
+        4 => i % 4,
+        _ => 1000,
+    }
+}
+
+// Whether a trial is due: at a 1 for Down, or at Up.
+fn is_due(row: &[u8; 64], at: Standing) -> bool {
+    match at {
+        Standing::Down(p) => {
+            if p < 1 {
+                return false;
+            }
+            if 64 < p {
+                return false;
+            }
+            row[p - 1] == 1
+        }
+        Standing::Up(_) => true,
+        Standing::Limit => false,
+        Standing::Given => false,
+        Standing::Ended => false,
+    }
+}
+
+// Whether the walk's row and standing fit the answer.
+fn left_right(number: usize, n: usize, answer: u8, before: Walk, after: Walk) -> bool {
+    if 64 < n {
+        return false;
+    }
+    let row = after.row;
+    let at = after.at;
+    match answer {
+        0 => {
+            let line = plain_rows::row_of_number(n, number);
+            if !same_row(&row, &line) {
+                return false;
+            }
+            standing_number(at) == 3
+        }
+        1 => {
+            if !same_row(&row, &[0u8; 64]) {
+                return false;
+            }
+            standing_number(at) == 4
+        }
+        20 => same_walk(before, after),
+        _ => is_due(&row, at),
+    }
+}
+
+// Whether a step does what the book says.
+fn agrees(book: Book, allowance: usize, n: usize, before: Walk, step: Stepped) -> bool {
+    let said = book::says(book, allowance);
+    let answer = step.answer;
+    let after = step.walk;
+    if answer_number(answer) != said {
+        return false;
+    }
+    if step.trials != book::trials(book, allowance) as u64 {
+        return false;
+    }
+    left_right(book.number, n, said, before, after)
+}
+
+// A step, compared.
+fn counted(book: Book, allowance: usize, n: usize, before: Walk, step: Stepped) -> Counts {
+    let answer = step.answer;
+    let said = answer_number(answer);
+    Counts {
+        walks: 0,
+        rings: plain_rows::one_if(said == 0),
+        trials: few(step.trials),
+        spent: plain_rows::one_if(said == 21),
+        differing: plain_rows::one_if(!agrees(book, allowance, n, before, step)),
+    }
+}
+
+// A whole walk, and one step after its end.
+fn compare(n: usize, half: usize, d: usize, kind: u8, limit: usize, pattern: usize) -> Counts
+    requires { ⌜ 0 < n ⌝ }
+    requires { ⌜ n ≤ 14 ⌝ }
+    requires { ⌜ half ≤ 8192 ⌝ }
+    requires { ⌜ limit < 2 * half ⌝ }
+{
+    let row = plain_rows::row_of_number(n, limit);
+    let opening = Walk::open(n, d, kind, &row[..n]);
+    let mut w = opening.walk;
+    let mut book = book::opened(n, half, d, kind, limit);
+    let mut counts = nothing();
+    let mut i: usize = 0;
+    while i < STEPS {
+        let allowance = allowance_of(pattern, i);
+        let next = book::stepped(n, half, d, kind, book, allowance);
+        let step = w.step(allowance as u64);
+        counts = sum(counts, counted(book, allowance, n, w, step));
+        if book.over {
+            counts.walks = 1;
+            return counts;
+        }
+        book = next;
+        w = step.walk;
+        i += 1;
+    }
+    // not ended after so many steps
+    counts.differing = STEPS;
+    counts
+}
+
+// A drawer, of a kind, at each limit from the first to n ones.
+fn compare_limits(n: usize, d: usize, kind: u8, first: usize, pattern: usize) -> Counts
+    requires { ⌜ 0 < n ⌝ }
+    requires { ⌜ n ≤ 14 ⌝ }
+{
+    let half = book::half_of(n);
+    let mut counts = nothing();
+    let mut limit = first;
+    while limit < 2 * half {
+        counts = sum(counts, compare(n, half, d, kind, limit, pattern));
+        limit += 1;
+    }
+    counts
+}
+
+// All drawers of n stations, of both kinds.
+fn compare_drawers(n: usize, first: usize, pattern: usize) -> Counts
+    requires { ⌜ 0 < n ⌝ }
+    requires { ⌜ n ≤ 14 ⌝ }
+{
+    let mut counts = nothing();
+    let mut d: usize = 0;
+    while d <= n {
+        counts = sum(counts, compare_limits(n, d, 1, first, pattern));
+        counts = sum(counts, compare_limits(n, d, 2, first, pattern));
+        d += 1;
+    }
+    counts
+}
+
+fn print_counts(n: usize, counts: Counts) {
+    plain_rows::print_named(b"n ", n);
+    plain_rows::print_named(b": walks ", counts.walks);
+    plain_rows::print_named(b" rings ", counts.rings);
+    plain_rows::print_named(b" trials ", counts.trials);
+    plain_rows::print_named(b" spent ", counts.spent);
+    plain_rows::print_named(b" differing ", counts.differing);
+    io::write_all(1, b"\n");
+}
+
+// Walks at n ones, up to 14 stations.
+fn show_drawers() {
+    io::write_all(1, b"limit of ones, plenty allowed\n");
+    let mut n: usize = 1;
+    while n <= 14 {
+        let ones = 2 * book::half_of(n) - 1;
+        print_counts(n, compare_drawers(n, ones, 0));
+        n += 1;
+    }
+}
+
+// Walks at all limits, up to 8 stations.
+fn show_limits(pattern: usize) {
+    let mut n: usize = 1;
+    while n <= 8 {
+        print_counts(n, compare_drawers(n, 0, pattern));
+        n += 1;
+    }
+}
+
+fn main() {
+    show_drawers();
+    io::write_all(1, b"all limits, plenty allowed\n");
+    show_limits(0);
+    io::write_all(1, b"all limits, always 1 allowed\n");
+    show_limits(1);
+    io::write_all(1, b"all limits, always 2 allowed\n");
+    show_limits(2);
+    io::write_all(1, b"all limits, always 3 allowed\n");
+    show_limits(3);
+    io::write_all(1, b"all limits, 0, 1, 2, 3 allowed in turn\n");
+    show_limits(4);
+    shown::show_walks();
+    shown::show_refusals();
+    records::show_single();
+    records::show_records();
+}

@@ -1,0 +1,178 @@
+// Walks and refused openings, printed.
+use refusal::Refusal;
+use walk::OpenAnswer;
+use walk::Standing;
+use walk::Walk;
+
+pub fn print_symbols(n: usize, row: &[u8; 64]) {
+    let mut i: usize = 0;
+    while i < 64 {
+        if i < n {
+            plain_rows::print_named(b"", crate::wide(row[i]));
+        }
+        i += 1;
+    }
+}
+
+pub fn print_truth(holds: bool) {
+    if holds {
+        io::write_all(1, b" yes\n");
+    } else {
+        io::write_all(1, b" no\n");
+    }
+}
+
+fn print_line(number: usize, n: usize, row: [u8; 64], trials: u64) {
+    plain_rows::print_named(b"", number);
+    io::write_all(1, b" ");
+    print_symbols(n, &row);
+    io::write_all(1, b" ");
+    io::print_decimal(1, trials);
+    io::write_all(1, b"\n");
+}
+
+// None with its trials. A walk with plenty allowed is refused nothing before that.
+fn print_end(said: u8, trials: u64) {
+    if said == 1 {
+        io::write_all(1, b"end - ");
+    } else {
+        plain_rows::print_named(b"refused ", crate::wide(said));
+        io::write_all(1, b" trials ");
+    }
+    io::print_decimal(1, trials);
+    io::write_all(1, b"\n");
+}
+
+// All rings with their trials, then none with its own.
+fn print_rings(opened: Walk) {
+    let mut w = opened;
+    let mut i: usize = 1;
+    while i < 1000 {
+        let step = w.step(1000);
+        w = step.walk;
+        let answer = step.answer;
+        let said = crate::answer_number(answer);
+        if said != 0 {
+            print_end(said, step.trials);
+            return;
+        }
+        let row = w.row;
+        print_line(i, w.n, row, step.trials);
+        i += 1;
+    }
+}
+
+// The walk that a refused opening hands back: of (1, 0), kind 1, Ended.
+fn is_no_walk(w: Walk) -> bool {
+    let row = [0u8; 64];
+    let none = Walk {
+        n: 1,
+        d: 0,
+        kind: 1,
+        row,
+        at: Standing::Ended,
+    };
+    crate::same_walk(w, none)
+}
+
+fn print_refused(r: Refusal, w: Walk) {
+    plain_rows::print_refusal(r);
+    io::write_all(1, b" ended walk of (1,0):");
+    print_truth(is_no_walk(w));
+}
+
+// A walk at a limit that is written as digits.
+fn show(n: usize, d: usize, kind: u8, digits: &[u8]) {
+    if 80 < digits.len() {
+        return;
+    }
+    let row = plain_rows::symbols(digits);
+    let t = digits.len();
+    let opening = Walk::open(n, d, kind, &row[..t]);
+    let answer = opening.answer;
+    let w = opening.walk;
+    plain_rows::print_named(b"(", n);
+    plain_rows::print_named(b",", d);
+    plain_rows::print_named(b") kind ", crate::wide(kind));
+    io::write_all(1, b" limit ");
+    io::write_all(1, digits);
+    io::write_all(1, b"\n");
+    match answer {
+        OpenAnswer::Open => print_rings(w),
+        OpenAnswer::NotOpen(r) => print_refused(r, w),
+    }
+}
+
+pub fn show_walks() {
+    show(6, 3, 1, b"111111");
+    show(8, 3, 1, b"11111111");
+    show(8, 3, 1, b"00011000");
+    show(8, 3, 1, b"00100100");
+    show(8, 3, 1, b"00000110");
+    show(4, 2, 2, b"0101");
+    show(2, 0, 2, b"11");
+    show(1, 0, 2, b"0");
+    show(1, 1, 2, b"1");
+    show(8, 0, 1, b"00000000");
+    show(
+        64,
+        0,
+        1,
+        b"1111111111111111111111111111111111111111111111111111111111111111",
+    );
+    show(
+        64,
+        1,
+        2,
+        b"1111111111111111111111111111111111111111111111111111111111111111",
+    );
+    show(
+        64,
+        2,
+        2,
+        b"0000000000000000000000000000000100000000000000000000000000000001",
+    );
+    show(
+        64,
+        63,
+        1,
+        b"1000000000000000000000000000000000000000000000000000000000000000",
+    );
+    show(
+        64,
+        64,
+        1,
+        b"1111111111111111111111111111111111111111111111111111111111111111",
+    );
+    show(
+        64,
+        64,
+        2,
+        b"1111111111111111111111111111111111111111111111111111111111111111",
+    );
+}
+
+pub fn show_refusals() {
+    show(0, 0, 1, b"");
+    show(65, 0, 1, b"");
+    show(
+        65,
+        0,
+        1,
+        b"00000000000000000000000000000000000000000000000000000000000000000",
+    );
+    show(0, 1, 3, b"2");
+    show(65, 66, 3, b"2");
+    show(4, 5, 1, b"0000");
+    show(4, 5, 3, b"00002");
+    show(4, 3, 0, b"1111");
+    show(4, 3, 3, b"1111");
+    show(4, 3, 255, b"00022");
+    show(4, 3, 1, b"111");
+    show(4, 3, 1, b"11111");
+    show(4, 3, 1, b"");
+    show(4, 3, 2, b"11112");
+    show(4, 3, 1, b"0200");
+    show(4, 3, 2, b"0232");
+    show(4, 3, 1, b"1112");
+}
