@@ -253,31 +253,42 @@ fn compare(n: usize, half: usize, d: usize, kind: u8, limit: usize, pattern: usi
     counts
 }
 
-// A drawer, of a kind, at each limit from the first to n ones.
-fn compare_limits(n: usize, d: usize, kind: u8, first: usize, pattern: usize) -> Counts
+// A drawer, of a kind, at limits from the first up, some numbers apart.
+fn compare_limits(
+    n: usize,
+    d: usize,
+    kind: u8,
+    first: usize,
+    apart: usize,
+    pattern: usize,
+) -> Counts
     requires { ⌜ 0 < n ⌝ }
     requires { ⌜ n ≤ 14 ⌝ }
+    requires { ⌜ 0 < apart ⌝ }
+    requires { ⌜ apart < 1000 ⌝ }
 {
     let half = book::half_of(n);
     let mut counts = nothing();
     let mut limit = first;
     while limit < 2 * half {
         counts = sum(counts, compare(n, half, d, kind, limit, pattern));
-        limit += 1;
+        limit += apart;
     }
     counts
 }
 
 // All drawers of n stations, of both kinds.
-fn compare_drawers(n: usize, first: usize, pattern: usize) -> Counts
+fn compare_drawers(n: usize, first: usize, apart: usize, pattern: usize) -> Counts
     requires { ⌜ 0 < n ⌝ }
     requires { ⌜ n ≤ 14 ⌝ }
+    requires { ⌜ 0 < apart ⌝ }
+    requires { ⌜ apart < 1000 ⌝ }
 {
     let mut counts = nothing();
     let mut d: usize = 0;
     while d <= n {
-        counts = sum(counts, compare_limits(n, d, 1, first, pattern));
-        counts = sum(counts, compare_limits(n, d, 2, first, pattern));
+        counts = sum(counts, compare_limits(n, d, 1, first, apart, pattern));
+        counts = sum(counts, compare_limits(n, d, 2, first, apart, pattern));
         d += 1;
     }
     counts
@@ -299,7 +310,7 @@ fn show_drawers() {
     let mut n: usize = 1;
     while n <= 14 {
         let ones = 2 * book::half_of(n) - 1;
-        print_counts(n, compare_drawers(n, ones, 0));
+        print_counts(n, compare_drawers(n, ones, 1, 0));
         n += 1;
     }
 }
@@ -308,13 +319,24 @@ fn show_drawers() {
 fn show_limits(pattern: usize) {
     let mut n: usize = 1;
     while n <= 8 {
-        print_counts(n, compare_drawers(n, 0, pattern));
+        print_counts(n, compare_drawers(n, 0, 1, pattern));
+        n += 1;
+    }
+}
+
+// Walks at every 257th limit, from 9 to 14 stations.
+fn show_spread() {
+    io::write_all(1, b"every 257th limit, plenty allowed\n");
+    let mut n: usize = 9;
+    while n <= 14 {
+        print_counts(n, compare_drawers(n, 0, 257, 0));
         n += 1;
     }
 }
 
 fn main() {
     show_drawers();
+    show_spread();
     io::write_all(1, b"all limits, plenty allowed\n");
     show_limits(0);
     io::write_all(1, b"all limits, always 1 allowed\n");
