@@ -5,8 +5,8 @@ use walk::Answer;
 use walk::OpenAnswer;
 use walk::Walk;
 
-// More trials than a ring takes.
-const ALLOWANCE: u64 = 1000;
+// All that can be allowed: more than the trials of any ring.
+const ALLOWANCE: u64 = 18446744073709551615;
 
 // A buffer of 4096 bytes has room for another line up to here.
 const FULL: usize = 3800;
@@ -82,7 +82,10 @@ fn print_rings(mut walk: Walk) {
                 print_front(&out, size);
                 return;
             }
-            Answer::Refused(_) => {
+            // not met by a walk that was opened: it is fit, and never spent
+            Answer::Refused(r) => {
+                print_front(&out, used);
+                print_refusal(r);
                 return;
             }
         }

@@ -2,7 +2,7 @@
 
 -- ---- a symbol is stored at place i
 use mathlib.Core.Bool.{and-false, false, true, _&&_}
-use mathlib.Core.List.{List, [], _∷_}
+use mathlib.Core.List.{List, [], _++_, _∷_}
 use mathlib.Core.Path.{refl, _≡_}
 use Prim.Native.Nat.{suc, zero, ℕ, _%_, _+_, _-_, _<_, _≤_}
 use native.Mathlib.Numerals.{add-one}
@@ -108,8 +108,10 @@ symbols-take (suc n) [] f i = omega arith
 symbols-take (suc n) (b ∷ a) f zero = f 0
 symbols-take (suc n) (b ∷ a) f (suc i) = symbols-take n a (λ k. f (suc k)) i
 
+pub symbols-append : (a b : List ℕ) → Symbols a → Symbols b → Symbols (a ++ b)
+symbols-append [] b f g i = g i
+symbols-append (c ∷ a) b f g zero = f 0
+symbols-append (c ∷ a) b f g (suc i) = symbols-append a b (λ k. f (suc k)) g i
+
 pub symbols-snoc : (a : List ℕ) (b : ℕ) → Symbols a → b ≤ 1 → Symbols (a ▹ b)
-symbols-snoc [] b f h zero = h
-symbols-snoc [] b f h (suc i) = omega arith
-symbols-snoc (c ∷ a) b f h zero = f 0
-symbols-snoc (c ∷ a) b f h (suc i) = symbols-snoc a b (λ k. f (suc k)) h i
+symbols-snoc a b f h = symbols-append a (b ∷ []) f (symbols-set (0 ∷ []) 0 b (symbols-zeros 1) h)

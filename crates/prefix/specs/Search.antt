@@ -1,13 +1,13 @@
 -- The search over the places behind a prefix. Not of document 01: what the inner functions compute.
 use mathlib.Core.Bool.{Bool, true, false, _&&_, _||_}
-use mathlib.Core.List.{List, [], _∷_, _++_}
+use mathlib.Core.List.{List, [], _∷_}
 use Prim.Native.Nat.{ℕ, zero, suc, _-_, _%_, _≤_}
 use lib.ListN.{length, getD}
 use lib.Dec.{eqb, leb}
 use Rattle.words.specs.Order.{le}
 use Rattle.words.specs.Symbols.{sum}
 use Rattle.words.specs.Scan.{_▹_, next, Scan, barred, periodic, scan}
-use Rattle.density.specs.Balanced.{balancedFrom, balanced}
+use Rattle.density.specs.Balanced.{balanced}
 
 -- each symbol is 0 or 1
 abbrev pub Symbols : List ℕ → Type 0

@@ -108,15 +108,15 @@ fn ruled_out(n: usize, d: usize, prefix: &[u8], h: usize, z: usize) -> bool
     false
 }
 
-// Whether some necklace of n symbols and density d begins with a prefix.
-pub fn begins_necklace(n: usize, d: usize, prefix: &[u8]) -> bool
-    requires { ⌜ (n ≤ 64) × (d ≤ n) × (length (now prefix) ≤ n) × Symbols (now prefix) × (0 < n) ⌝ }
-    ensures { λ r. ⌜ r ≡ begins n d (now (prefix .entry)) ⌝ }
+// Whether some necklace of n symbols and density d begins with the first t symbols of a row.
+pub fn begins_necklace(n: usize, d: usize, row: [u8; 64], t: usize) -> bool
+    requires { ⌜ (n ≤ 64) × (d ≤ n) × (t ≤ n) × Symbols row × (0 < n) ⌝ }
+    ensures { λ r. ⌜ r ≡ begins n d (take t row) ⌝ }
 {
-    let t = prefix.len();
     if t == 0 {
         return true;
     }
+    let prefix = &row[..t];
     let h = density::count::sum_ones(prefix);
     let z = words::inner::leading_zeros(prefix);
     if ruled_out(n, d, prefix, h, z) {
@@ -126,11 +126,5 @@ pub fn begins_necklace(n: usize, d: usize, prefix: &[u8]) -> bool
     if p == 0 {
         return false;
     }
-    let mut x = [0u8; 64];
-    let mut i: usize = 0;
-    while i < prefix.len() {
-        x[i] = prefix[i];
-        i += 1;
-    }
-    search_from(x, t, n, d, p, h, z)
+    search_from(row, t, n, d, p, h, z)
 }

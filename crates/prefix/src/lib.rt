@@ -29,6 +29,7 @@ pub fn ask(n: usize, d: usize, prefix: &[u8]) -> PrefixAnswer
     if wrong != 0 {
         return PrefixAnswer::Refused(Refusal::Symbol(wrong));
     }
-    let yes = inner::begins_necklace(n, d, prefix);
+    let row = words::inner::padded(prefix);
+    let yes = inner::begins_necklace(n, d, row, prefix.len());
     PrefixAnswer::Answered(yes)
 }

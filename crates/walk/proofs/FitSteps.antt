@@ -137,9 +137,6 @@ module _ (w : Walk) (f : Fitting w) (l : length (w .row) ≡ 64) where
   pub whole-row : (0 < length (rowOf w)) × (length (rowOf w) ≤ 64) × Symbols (rowOf w)
   whole-row = (omega (arith, whole-length, f .some), omega (arith, whole-length, f .most), symbols-take (w .n) (w .row) (f .symbols))
 
-  pub beginning : (i : ℕ) → i ≤ w .n → (w .n ≤ 64) × (w .d ≤ w .n) × (length (take i (w .row)) ≤ w .n) × Symbols (take i (w .row)) × (0 < w .n)
-  beginning i h = (f .most, f .dense, omega (arith, length-take-le i (w .row) (omega (arith, f .most))), symbols-take i (w .row) (f .symbols), f .some)
-
 -- a necklace of a density is a necklace
 pub is-necklace : (d : ℕ) (w : List ℕ) → isNecklaceOf d w ≡ true → isNecklace w ≡ true
 is-necklace d w e = →isNecklace w (isNecklaceOf→ d w e .1)

@@ -3,9 +3,8 @@
 -- ---- kinds
 use mathlib.Core.Bool.{Bool, and-false, and-true, false, true, _&&_}
 use mathlib.Core.List.{List}
-use mathlib.Core.Path.{ap, refl, sym, _∙_, _≡_}
-use Prim.Native.Nat.{suc, zero, ℕ, _+_, _-_, _<_, _≤_}
-use native.Mathlib.Nat.{sub-zero}
+use mathlib.Core.Path.{refl, sym, _∙_, _≡_}
+use Prim.Native.Nat.{suc, zero, ℕ, _+_, _<_, _≤_}
 use native.Mathlib.Numerals.{add-one}
 use native.Mathlib.Omega.{arith}
 use lib.Dec.{eqb, leb}
@@ -17,7 +16,7 @@ use Rattle.density.specs.Density.{density}
 use Rattle.density.specs.Necklaces.{isKind, isNecklaceOf, ofKind}
 use Rattle.walk.specs.Fit.{allUpTo}
 use Rattle.words.specs.Rotation.{isLyndon, isNecklace}
-use Rattle.words.specs.Symbols.{sum, zeros}
+use Rattle.words.specs.Symbols.{sum}
 
 pub kind-one : (k : ℕ) → k ≡ 1 → isKind k ≡ true
 unfolding isKind
@@ -76,13 +75,6 @@ module _ (s : List ℕ) (m i : ℕ) (h : i < length s) (so : HighestSo s m (drop
 pub highest-end : (s : List ℕ) (m i : ℕ) → length s ≤ i → HighestSo s m (drop i s) → (b : ℕ) → allUpTo b s ≡ leb m b
 unfolding allUpTo
 highest-end s m i h so b = so b ∙ rw (drop-of-length-le s h) (and-true (leb m b))
-
--- ---- zeros behind a row
-
-pub drop-zeros : (k n : ℕ) → drop k (zeros n) ≡ zeros (n - k)
-drop-zeros zero n = ap zeros (sym (sub-zero n))
-drop-zeros (suc k) zero = let e : 0 - suc k ≡ 0 = omega arith in rw e
-drop-zeros (suc k) (suc n) = let e : suc n - suc k ≡ n - k = omega arith in rw e (drop-zeros k n)
 
 -- ---- membership
 

@@ -4,10 +4,9 @@ use Prim.Native.Nat.{ℕ, _-_}
 use lib.ListN.{length}
 use lib.Dec.{eqb, leb}
 use Rattle.words.specs.Symbols.{zeros, firstWrong}
-use Rattle.refusal.specs.declared.Refusal.{Refusal}
 use Rattle.refusal.specs.declared.Refusal.the-variants.{Stations, Holes, Kind, Limit as LimitLength, Symbol}
 use Rattle.refusal.specs.Refusals.{numberOf, placeOf}
-use Rattle.refusal.specs.Verdicts.{Verdict, accepted, refused, need, areStations, mostStations}
+use Rattle.refusal.specs.Verdicts.{Verdict, accepted, refused, need, areStations}
 use Rattle.density.specs.Necklaces.{isKind}
 use Rattle.walk.specs.declared.Standing.the-variants.{Limit, Ended}
 use Rattle.walk.specs.declared.Walk.{Walk}

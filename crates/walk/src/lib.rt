@@ -131,7 +131,7 @@ impl Walk {
         if wrong != 0 {
             return not_open(Refusal::Symbol(wrong));
         }
-        let row = rows::padded(limit);
+        let row = words::inner::padded(limit);
         let walk = Walk {
             n,
             d,
@@ -200,7 +200,7 @@ impl Walk {
                     return false;
                 }
                 let i = p - 1;
-                prefix::inner::begins_necklace(n, d, &row[..i])
+                prefix::inner::begins_necklace(n, d, row, i)
             }
             Standing::Given => {
                 if !rows::is_member(d, &row[..n]) {

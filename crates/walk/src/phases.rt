@@ -38,7 +38,7 @@ pub fn descend(n: usize, d: usize, mut row: [u8; 64], mut p: usize, mut left: u6
             }
             left -= 1;
             row[q] = 0;
-            if prefix::inner::begins_necklace(n, d, &row[..p]) {
+            if prefix::inner::begins_necklace(n, d, row, p) {
                 return Phase {
                     row,
                     at: Standing::Up(p + 1),
@@ -75,7 +75,7 @@ pub fn ascend(n: usize, d: usize, mut row: [u8; 64], mut p: usize, mut left: u64
         left -= 1;
         let i = p - 1;
         row[i] = 1;
-        if !prefix::inner::begins_necklace(n, d, &row[..p]) {
+        if !prefix::inner::begins_necklace(n, d, row, p) {
             row[i] = 0;
         }
         p += 1;

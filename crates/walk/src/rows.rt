@@ -1,11 +1,9 @@
 // Rows of a walk: tests of their symbols, of membership and of the kind.
 ghost use mathlib.Core.Path.{_≡_};
 ghost use mathlib.Core.Bool.{true};
-ghost use mathlib.Core.List.{_++_};
-ghost use Prim.Native.Nat.{ℕ, _-_, _≤_, _<_};
+ghost use Prim.Native.Nat.{ℕ, _≤_, _<_};
 ghost use lib.ListN.{length};
 ghost use lib.Dec.{leb};
-ghost use Rattle.words.specs.Symbols.{zeros};
 ghost use Rattle.words.specs.Rotation.{isNecklace};
 ghost use Rattle.density.specs.Necklaces.{isNecklaceOf, isKind, ofKind};
 ghost use Rattle.prefix.specs.Search.{Symbols};
@@ -35,20 +33,6 @@ pub fn highest(s: &[u8]) -> u8
         i += 1;
     }
     most
-}
-
-// A row and zeros behind it.
-pub fn padded(limit: &[u8]) -> [u8; 64]
-    requires { ⌜ length (now limit) ≤ 64 ⌝ }
-    ensures { λ r. ⌜ r ≡ now (limit .entry) ++ zeros (64 - length (now (limit .entry))) ⌝ }
-{
-    let mut row = [0u8; 64];
-    let mut i: usize = 0;
-    while i < limit.len() {
-        row[i] = limit[i];
-        i += 1;
-    }
-    row
 }
 
 // Whether a row of zeros and ones is a necklace of density d.

@@ -9,7 +9,6 @@ use walk::Standing;
 use walk::Stepped;
 use walk::Walk;
 ghost use Prim.Native.Nat.{_<_, _≤_, _*_};
-ghost use lib.ListN.{length};
 
 // More steps than any of these walks needs.
 const STEPS: usize = 20000;

@@ -1,9 +1,11 @@
 -- Rows of zeros.
 use mathlib.Core.List.{List, [], append-nil, _++_, _∷_}
 use mathlib.Core.Path.{ap, refl, sym, _∙_, _≡_}
-use Prim.Native.Nat.{suc, zero, ℕ, _+_, _<_}
+use Prim.Native.Nat.{suc, zero, ℕ, _+_, _-_, _<_}
+use native.Mathlib.Nat.{sub-zero}
 use native.Mathlib.Numerals.{add-one}
-use lib.ListN.{getD, length, length-replicate, replicate-append-replicate, take}
+use native.Mathlib.Omega.{arith}
+use lib.ListN.{drop, getD, length, length-replicate, replicate-append-replicate, take}
 use lib.Seq.{take-suc}
 use Rattle.words.specs.Symbols.{zeros}
 
@@ -25,3 +27,9 @@ zeros-swap (suc q) z t = ap {B = List ℕ} (λ w. 0 ∷ w) (zeros-swap q z t) �
 -- one more leading zero
 pub zeros-more : (a : List ℕ) (z : ℕ) → z < length a → take z a ≡ zeros z → getD a z 0 ≡ 0 → take (z + 1) a ≡ zeros (z + 1)
 zeros-more a z h e k = rw (add-one, take-suc a z 0 h, e, k) (sym (zeros-round z []) ∙ ap {B = List ℕ} (λ w. 0 ∷ w) (append-nil (zeros z)))
+
+-- some of them left out
+pub drop-zeros : (k n : ℕ) → drop k (zeros n) ≡ zeros (n - k)
+drop-zeros zero n = ap zeros (sym (sub-zero n))
+drop-zeros (suc k) zero = let e : 0 - suc k ≡ 0 = omega arith in rw e
+drop-zeros (suc k) (suc n) = let e : suc n - suc k ≡ n - k = omega arith in rw e (drop-zeros k n)

@@ -1,7 +1,7 @@
 -- Rotations, necklaces, Lyndon words, the period and the least rotation, over any alphabet.
-use mathlib.Core.Bool.{Bool, true, false}
+use mathlib.Core.Bool.{Bool, false}
 use mathlib.Core.List.{List, [], _∷_, _++_}
-use Prim.Native.Nat.{ℕ, zero, suc, pred}
+use Prim.Native.Nat.{ℕ, suc, pred}
 use lib.ListN.{length, take, drop}
 use Rattle.words.specs.Order.{lt, le, same}
 use Rattle.words.specs.Tests.{allBelow, firstFrom}

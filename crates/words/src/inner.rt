@@ -1,8 +1,10 @@
 // Helpers for other crates, over rows of any alphabet.
 ghost use mathlib.Core.Path.{_≡_};
-ghost use Prim.Native.Nat.{_≤_, _<_};
+ghost use mathlib.Core.List.{_++_};
+ghost use Prim.Native.Nat.{_-_, _≤_, _<_};
 ghost use lib.ListN.{length};
 ghost use Rattle.words.specs.Scan.{Leading, coded, scan};
+ghost use Rattle.words.specs.Symbols.{zeros};
 
 // With how many zeros a row begins.
 pub fn leading_zeros(a: &[u8]) -> usize
@@ -41,4 +43,18 @@ pub fn prefix_period(a: &[u8], z: usize) -> usize
         i += 1;
     }
     i - j
+}
+
+// A row and zeros behind it.
+pub fn padded(a: &[u8]) -> [u8; 64]
+    requires { ⌜ length (now a) ≤ 64 ⌝ }
+    ensures { λ r. ⌜ r ≡ now (a .entry) ++ zeros (64 - length (now (a .entry))) ⌝ }
+{
+    let mut row = [0u8; 64];
+    let mut i: usize = 0;
+    while i < a.len() {
+        row[i] = a[i];
+        i += 1;
+    }
+    row
 }

@@ -1,5 +1,5 @@
 -- `drawer::print_rings` is safe and ends: the number of the ring grows.
-use mathlib.Core.Path.{sym, _≡_}
+use mathlib.Core.Path.{_≡_}
 use lib.ListN.{length}
 use Prim.Native.Nat.{_-_}
 use borrow.Author.Needs.{needs}
@@ -40,5 +40,8 @@ print-rings-spec =
     (λ c κs. search needs)
     (λ c. search needs)
     (λ c. search needs)
+    (λ c. search needs)
+    (λ c κs. search needs)
+    (λ c κs. search needs)
     (λ c. search needs)
     (λ c. search needs))

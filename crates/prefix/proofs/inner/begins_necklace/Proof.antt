@@ -1,134 +1,95 @@
--- `prefix::inner::begins_necklace` meets its contract. The invariant of the copying loop: the first i symbols of x are those of the prefix.
-use mathlib.Core.Path.{ap, refl, sym, _∙_, _≡_}
-use Prim.Native.Nat.{_-_, _≤_}
+-- `prefix::inner::begins_necklace` meets its contract: each return is what the search says of the first t symbols.
+use mathlib.Core.List.{List}
+use mathlib.Core.Path.{ap, sym, _∙_, _≡_}
+use Prim.Native.Nat.{ℕ, _-_}
 use native.Mathlib.Omega.{arith}
-use lib.ListN.{getD, length, length-set, take}
-use lib.Seq.{take-all}
+use lib.ListN.{length, take}
+use lib.Seq.{length-take-le}
 use borrow.Author.Needs.{needs}
 use Rattle.density.specs.Necklaces.{begins}
-use Rattle.prefix.proofs.Places.{asks-empty, asks-none, asks-period, put, symbols-binary, symbols-set, symbols-zeros, taken}
+use Rattle.prefix.proofs.Places.{asks-empty, asks-none, asks-period, symbols-binary, symbols-take}
 use Rattle.prefix.proofs.Search.{asks-begins}
 use Rattle.prefix.specs.Search.{Symbols, asks, continues}
-use Rattle.words.specs.Scan.{_▹_}
 use Rattle.prefix.proofs.inner.begins_necklace.Statement.{statement}
 use Rattle.prefix.proofs.inner.begins_necklace.Tie as tie
 
-abbrev Inv-loop : tie.InvT-loop
-Inv-loop n d prefix t h z p x₀ i₀ x i = (i ≤ length prefix) × (length x ≡ 64) × (take i x ≡ take i prefix) × Symbols x
+-- the first t symbols
+abbrev begun : tie.Start → List ℕ
+begun c = take (c .args .t) (c .args .t3)
 
-abbrev μ-loop : tie.MeasureT-loop
-μ-loop n d prefix t h z p x₀ i₀ x i = length prefix - i
+module _ (c : tie.Start) where
+  begun-length : length (begun c) ≡ c .args .t
+  begun-length = let l : length (c .args .t3) ≡ 64 = search needs in length-take-le (c .args .t) (c .args .t3) (omega arith)
 
--- what the contract asks, by the search
-asked : (c : tie.Start Inv-loop μ-loop) → begins (c .args .n) (c .args .d) (c .args .prefix .now) ≡ asks (c .args .n) (c .args .d) (c .args .prefix .now)
-asked c = sym (asks-begins (c .args .n) (c .args .d) (c .args .prefix .now) (omega arith) (omega arith) (omega arith) (symbols-binary (c .args .prefix .now) (c .pre .3)))
+  begun-symbols : Symbols (begun c)
+  begun-symbols = symbols-take (c .args .t) (c .args .t3) (c .pre .3)
 
-returns : tie.Need-returns Inv-loop μ-loop
+  -- what the contract asks, by the search
+  asked : begins (c .args .n) (c .args .d) (begun c) ≡ asks (c .args .n) (c .args .d) (begun c)
+  asked = sym (asks-begins (c .args .n) (c .args .d) (begun c) (omega (arith, begun-length)) (omega arith) (omega (arith, begun-length)) (symbols-binary (begun c) begun-symbols))
+
+returns : tie.Need-returns
 returns c =
-    let args = c .before .before .args in
-    sym (asked (c .before .before) ∙ asks-empty (args .n) (args .d) (args .prefix .now) (c .if1 .taken))
+    let s = c .before in
+    sym (asked s ∙ asks-empty (s .args .n) (s .args .d) (begun s) (begun-length s ∙ c .if1 .taken))
 
-sum-ones-requires : tie.Need-sum-ones-requires Inv-loop μ-loop
-sum-ones-requires c κs = search needs
+array-share-prefix-row : tie.Need-array-share-prefix-row
+array-share-prefix-row c = search needs
 
-leading-zeros-requires : tie.Need-leading-zeros-requires Inv-loop μ-loop
-leading-zeros-requires c κs = search needs
+slice-aggregate-prefix : tie.Need-slice-aggregate-prefix
+slice-aggregate-prefix c = sym (begun-length (c .before .before))
 
-ruled-out-requires : tie.Need-ruled-out-requires Inv-loop μ-loop
-ruled-out-requires c κs = search needs
+sum-ones-requires : tie.Need-sum-ones-requires
+sum-ones-requires c κs = (omega (arith, begun-length (c .before .before)), begun-symbols (c .before .before))
 
-returns-2 : tie.Need-returns-2 Inv-loop μ-loop
+ruled-out-requires : tie.Need-ruled-out-requires
+ruled-out-requires c κs =
+    let s = c .before .before .before .before in
+    (s .pre .0, s .pre .1, omega (arith, begun-length s), c .before .sum-ones .ensures .0, c .leading-zeros .ensures, begun-symbols s)
+
+returns-2 : tie.Need-returns-2
 returns-2 c = sym (c .before .ruled-out .ensures (c .if2 .taken))
 
-prefix-period-requires : tie.Need-prefix-period-requires Inv-loop μ-loop
-prefix-period-requires c κs = (omega arith, c .before .before .leading-zeros .ensures)
+prefix-period-requires : tie.Need-prefix-period-requires
+prefix-period-requires c κs =
+    let s = c .before .before .before .before .before .before in
+    (omega (arith, begun-length s), c .before .before .leading-zeros .ensures)
 
-returns-3 : tie.Need-returns-3 Inv-loop μ-loop
+returns-3 : tie.Need-returns-3
 returns-3 c =
-    let start = c .before .before .before .before .before .before .before .before in
-    let args = start .args in
-    sym (asked start ∙ asks-none (args .n) (args .d) (args .prefix .now) (omega arith) (rw (c .if3 .taken) at (c .before .prefix-period .ensures .0)))
+    let s = c .before .before .before .before .before .before .before .before in
+    sym (asked s ∙ asks-none (s .args .n) (s .args .d) (begun s) (omega (arith, begun-length s)) (rw (c .if3 .taken) at (c .before .prefix-period .ensures .0)))
 
-loop-holds : tie.Need-loop-holds Inv-loop μ-loop
-loop-holds c = (omega arith, refl, refl, symbols-zeros 64)
-
-shared-slice-read-x : tie.Need-shared-slice-read-x Inv-loop μ-loop
-shared-slice-read-x c = search needs
-
-array-write-x : tie.Need-array-write-x Inv-loop μ-loop
-array-write-x c = search needs
-
-add-i : tie.Need-add-i Inv-loop μ-loop
-add-i c = search needs
-
-loop-less : tie.Need-loop-less Inv-loop μ-loop
-loop-less c = search needs
-
-loop-again : tie.Need-loop-again Inv-loop μ-loop
-loop-again c =
-    let l = c .before .before in
-    let start = l .before .before .before .before .before .before .before .before .before in
-    let a = start .args .prefix .now in
-    let x = l .loop .x in
-    let i = l .loop .i in (
-      omega arith,
-      simp length-set (l .loop .inv .1),
-      put x i (getD a i 0) (omega arith) ∙ ap (λ r. r ▹ getD a i 0) (l .loop .inv .2) ∙ sym (taken a i (omega arith)),
-      symbols-set x i (getD a i 0) (l .loop .inv .3) (start .pre .3 i),
-    )
-
--- behind the loop, x begins with the prefix
-copied :
-    (c : tie.After-loop Inv-loop μ-loop) →
-    let a = c .before .before .before .before .before .before .before .before .before .before .args .prefix .now in
-    take (length a) (c .before .loop .x) ≡ a
-copied c =
-    let a = c .before .before .before .before .before .before .before .before .before .before .args .prefix .now in
-    let i = c .before .loop .i in
-    let end : i ≡ length a = omega arith in
-    ap (λ k. take k (c .before .loop .x)) (sym end) ∙ c .before .loop .inv .2 ∙ take-all i a (omega arith)
-
-search-from-requires : tie.Need-search-from-requires Inv-loop μ-loop
+search-from-requires : tie.Need-search-from-requires
 search-from-requires c κs =
-    let found = c .before .before .before .prefix-period in
-    let h = c .before .before .before .before .before .before .before .sum-ones in (
-      omega arith,
-      found .ensures .1,
-      omega arith,
-      omega arith,
-      rw (copied c) (h .ensures .0),
-      h .ensures .1,
-      c .before .loop .inv .3,
-      rw (copied c) (c .before .before .before .before .before .before .leading-zeros .ensures),
-    )
+    let found = c .before .prefix-period in
+    let z = c .before .before .before .before .leading-zeros in
+    let h = c .before .before .before .before .before .sum-ones in
+    let s = c .before .before .before .before .before .before .before .before in
+    (omega arith, omega (arith, found .ensures .1, begun-length s), s .pre .2, s .pre .0, h .ensures .0, omega (arith, h .ensures .1, begun-length s), s .pre .3, z .ensures)
 
-returns-4 : tie.Need-returns-4 Inv-loop μ-loop
+returns-4 : tie.Need-returns-4
 returns-4 c =
-    let start = c .before .before .before .before .before .before .before .before .before .before .before in
-    let args = start .args in
-    let found = c .before .before .before .before .prefix-period in
-    let a = args .prefix .now in
-    let r : c .search-from .result ≡ continues (args .d) (found .result) (args .n - length a) a = rw (copied (c .before)) at (c .search-from .ensures) in
-    r ∙ sym (asked start ∙ asks-period (args .n) (args .d) (found .result) a (omega arith) (omega arith) (found .ensures .0))
+    let found = c .before .before .prefix-period in
+    let s = c .before .before .before .before .before .before .before .before .before in
+    let a = s .args in
+    c .search-from .ensures
+    ∙ sym
+    (asked s ∙ asks-period (a .n) (a .d) (found .result) (begun s) (omega (arith, begun-length s)) (omega arith) (found .ensures .0)
+    ∙ ap (λ k. continues (a .d) (found .result) (a .n - k) (begun s)) (begun-length s))
 
 pub begins-necklace-spec : {M : Type 1} → statement M
 begins-necklace-spec =
     tie.close
     (tie.spec
-    Inv-loop
-    μ-loop
     returns
+    array-share-prefix-row
+    slice-aggregate-prefix
     sum-ones-requires
-    leading-zeros-requires
+    (λ c κs. search needs)
     ruled-out-requires
     returns-2
     prefix-period-requires
     returns-3
-    loop-holds
-    shared-slice-read-x
-    array-write-x
-    add-i
-    loop-less
-    loop-again
     search-from-requires
     returns-4)

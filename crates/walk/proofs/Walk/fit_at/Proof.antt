@@ -1,13 +1,12 @@
 -- `walk::Walk::fit_at` meets its contract.
 use mathlib.Core.Path.{refl, sym, _∙_, _≡_}
-use Prim.Native.Nat.{_-_}
 use native.Mathlib.Omega.{arith}
 use lib.ListN.{length, length-map}
 use lib.Seq.{length-take-le}
 use borrow.Author.Needs.{needs}
 use borrow.Author.Tests.{not-false, not-true}
 use Rattle.prefix.proofs.Places.{taken}
-use Rattle.walk.proofs.FitSteps.{at-down, at-down-to, at-ended, at-given, at-given-not, at-up, at-up-high, at-up-low, beginning, fit-as, is-necklace, whole-row}
+use Rattle.walk.proofs.FitSteps.{at-down, at-down-to, at-ended, at-given, at-given-not, at-up, at-up-high, at-up-low, fit-as, is-necklace, whole-row}
 use Rattle.walk.proofs.Runs.{given}
 use Rattle.walk.specs.Fit.{fitAt}
 use Rattle.walk.specs.declared.Standing.the-variants.{Down, Ended, Given, Limit, Up}
@@ -27,20 +26,10 @@ returns-2 c = fit-as _ (Up _) (c .before .before .at2 .given .1) (sym (at-up-low
 returns-3 : tie.Need-returns-3
 returns-3 c = fit-as _ (Up _) (c .before .before .before .at2 .given .1) (sym (at-up-high _ _ (c .before .if2 .left) (c .if3 .taken)))
 
-array-share-prefix-row : tie.Need-array-share-prefix-row
-array-share-prefix-row c =
-    let s = c .before .before .before .before .before .before in
-    omega (arith, row-64 s, s .pre .most, c .if3 .left)
-
-slice-aggregate-begins-necklace : tie.Need-slice-aggregate-begins-necklace
-slice-aggregate-begins-necklace c =
-    let s = c .before .before .before .before .before .before .before in
-    sym (length-take-le _ _ (omega (arith, row-64 s, s .pre .most, c .before .if3 .left)))
-
 begins-necklace-requires : tie.Need-begins-necklace-requires
 begins-necklace-requires c κs =
-    let s = c .before .before .before .before .before .before .before in
-    beginning (s .args .self) (s .pre) (row-64 s) (c .before .before .before .before .at2 .given .0 .0 - 1) (omega (arith, c .before .if3 .left))
+    let f = c .before .before .before .before .before .before .pre in
+    (f .most, f .dense, omega (arith, c .if3 .left), f .symbols, f .some)
 
 is-member-requires : tie.Need-is-member-requires
 is-member-requires c κs = let s = c .before .before .before .before in whole-row (s .args .self) (s .pre) (row-64 s)
@@ -61,7 +50,7 @@ returns-6 : tie.Need-returns-6
 returns-6 c = fit-as _ (Down _) (c .before .before .at .given .1) (at-down-to _ _ (c .if1 .left))
 
 returns-7 : tie.Need-returns-7
-returns-7 c = fit-as _ (Up _) (c .before .before .before .before .before .at2 .given .1) (c .begins-necklace .ensures ∙ at-up _ _ (c .before .before .before .if2 .left) (c .before .before .if3 .left))
+returns-7 c = fit-as _ (Up _) (c .before .before .before .before .at2 .given .1) (c .begins-necklace .ensures ∙ at-up _ _ (c .before .before .if2 .left) (c .before .if3 .left))
 
 returns-8 : tie.Need-returns-8
 returns-8 c = fit-as _ Given (c .before .before .before .before .before .enum-told2 .given .1) (c .of-kind .ensures ∙ at-given _ (sym (c .before .before .before .is-member .ensures) ∙ not-false _ (c .before .before .if4 .left)))
@@ -80,8 +69,6 @@ fit-at-spec =
     returns-2
     returns-3
     (λ c. search needs)
-    array-share-prefix-row
-    slice-aggregate-begins-necklace
     begins-necklace-requires
     (λ c. search needs)
     (λ c. omega (arith, row-64 (c .before .before .before), c .before .before .before .pre .most))

@@ -6,12 +6,12 @@ use mathlib.Core.Path.{ap, refl, sym, _∙_, _≡_}
 use Prim.Native.Nat.{ℕ, _+_, _-_, _<_, _≤_}
 use native.Mathlib.Nat.{pos-of-ne-zero}
 use native.Mathlib.Omega.{arith}
-use lib.ListN.{length, length-set, length-take, set, take}
-use lib.Seq.{length-take-le, set-set}
+use lib.ListN.{length, length-set, set, take}
+use lib.Seq.{set-set}
 use borrow.Author.Needs.{needs}
 use borrow.Author.Tests.{not-false, not-true}
 use Rattle.density.specs.Necklaces.{begins}
-use Rattle.prefix.proofs.Places.{symbols-set, symbols-take, taken}
+use Rattle.prefix.proofs.Places.{symbols-set, taken}
 use Rattle.prefix.specs.Search.{Symbols}
 use Rattle.walk.proofs.PhaseSteps.{ascent-end, ascent-no, ascent-spent, ascent-yes, asked}
 use Rattle.walk.specs.Phases.{ascent}
@@ -43,11 +43,8 @@ module _ {n d p₀ left₀ : ℕ} {row₀ : List ℕ} {p left : ℕ} {row : List
   answer-is : (r b : Bool) → r ≡ begins n d (take p (set row (p - 1) 1)) → r ≡ b → begins n d (take (p - 1) row ++ (1 ∷ [])) ≡ b
   answer-is r b e f = ap (begins n d) (sym (asked row p 1 (v .some) (omega (arith, v .long)))) ∙ sym e ∙ f
 
-  tried-symbols : Symbols (take p (set row (p - 1) 1))
-  tried-symbols = symbols-take p (set row (p - 1) 1) (symbols-set row (p - 1) 1 (v .symbols) (omega arith))
-
-  tried-length : length (take p (set row (p - 1) 1)) ≤ n
-  tried-length = simp (length-take, length-set) (omega arith)
+  tried-symbols : Symbols (set row (p - 1) 1)
+  tried-symbols = symbols-set row (p - 1) 1 (v .symbols) (omega arith)
 
   on-yes : 0 < left → begins n d (take (p - 1) row ++ (1 ∷ [])) ≡ true → Inv n d p₀ left₀ row₀ (p + 1) (left - 1) (set row (p - 1) 1)
   on-yes l f = record {
@@ -75,25 +72,19 @@ returns c =
     let a = c .before .before .before .args in
     sym (ascent-spent (a .n) (a .d) (l .p) (l .left) (l .row) (l .inv .some) (c .before .loop-test .taken) (c .if1 .taken)) ∙ l .inv .same
 
-array-share-prefix-row : tie.Need-array-share-prefix-row Inv-loop μ-loop
-array-share-prefix-row c = simp length-set (omega arith)
-
-slice-aggregate-begins-necklace : tie.Need-slice-aggregate-begins-necklace Inv-loop μ-loop
-slice-aggregate-begins-necklace c = sym (length-take-le _ _ (simp length-set (omega arith)))
-
 begins-necklace-requires : tie.Need-begins-necklace-requires Inv-loop μ-loop
 begins-necklace-requires c κs =
-    let l = c .before .before .before .loop in
-    let s = c .before .before .before .before in
-    let h = c .before .before .loop-test .taken in
-    (s .pre .2, s .pre .3, tried-length (l .inv) (s .pre .2) h, tried-symbols (l .inv) (s .pre .2) h, omega arith)
+    let l = c .before .before .loop in
+    let s = c .before .before .before in
+    let h = c .before .loop-test .taken in
+    (s .pre .2, s .pre .3, h, tried-symbols (l .inv) (s .pre .2) h, omega arith)
 
 loop-again : tie.Need-loop-again Inv-loop μ-loop
 loop-again c =
-    let l = c .before .before .before .before .before .loop in
-    let s = c .before .before .before .before .before .before in
-    let h = c .before .before .before .before .loop-test .taken in
-    let k = pos-of-ne-zero (c .before .before .before .if1 .left) in
+    let l = c .before .before .before .before .loop in
+    let s = c .before .before .before .before .before in
+    let h = c .before .before .before .loop-test .taken in
+    let k = pos-of-ne-zero (c .before .before .if1 .left) in
     let q = c .before .begins-necklace .ensures in
     ⊎-elim
     (λ w. rw (w .1) (on-no (l .inv) (s .pre .2) h k (answer-is (l .inv) (s .pre .2) h _ false q (not-true _ (w .0 .taken)))))
@@ -117,8 +108,6 @@ ascend-spec =
     (λ c. search needs)
     (λ c. search needs)
     (λ c. search needs)
-    array-share-prefix-row
-    slice-aggregate-begins-necklace
     begins-necklace-requires
     (λ c. search needs)
     (λ c. search needs)

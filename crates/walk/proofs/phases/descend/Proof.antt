@@ -5,11 +5,10 @@ use mathlib.Core.Path.{ap, refl, sym, _∙_, _≡_}
 use Prim.Native.Nat.{ℕ, _-_, _<_, _≤_}
 use native.Mathlib.Nat.{pos-of-ne-zero}
 use native.Mathlib.Omega.{arith}
-use lib.ListN.{getD, length, length-set, length-take, set, take}
-use lib.Seq.{length-take-le}
+use lib.ListN.{getD, length, set, take}
 use borrow.Author.Needs.{needs}
 use Rattle.density.specs.Necklaces.{begins}
-use Rattle.prefix.proofs.Places.{symbols-set, symbols-take, taken}
+use Rattle.prefix.proofs.Places.{symbols-set, taken}
 use Rattle.prefix.specs.Search.{Symbols}
 use Rattle.walk.proofs.PhaseSteps.{asked, descent-end, descent-free, descent-no, descent-spent, descent-yes, put-back}
 use Rattle.walk.specs.Phases.{descent}
@@ -39,11 +38,8 @@ module _ {n d p₀ left₀ : ℕ} {row₀ : List ℕ} {p left : ℕ} {row : List
   answer-is : (r b : Bool) → r ≡ begins n d (take p (set row (p - 1) 0)) → r ≡ b → begins n d (take (p - 1) row ++ (0 ∷ [])) ≡ b
   answer-is r b e f = ap (begins n d) (sym (asked row p 0 h (omega (arith, v .inside, v .long)))) ∙ sym e ∙ f
 
-  tried-symbols : Symbols (take p (set row (p - 1) 0))
-  tried-symbols = symbols-take p (set row (p - 1) 0) (symbols-set row (p - 1) 0 (v .symbols) (omega arith))
-
-  tried-length : length (take p (set row (p - 1) 0)) ≤ n
-  tried-length = simp (length-take, length-set) (omega (arith, v .inside))
+  tried-symbols : Symbols (set row (p - 1) 0)
+  tried-symbols = symbols-set row (p - 1) 0 (v .symbols) (omega arith)
 
   on-no : (e : getD row (p - 1) 0 ≡ 0 → ⊥) → 0 < left → begins n d (take (p - 1) row ++ (0 ∷ [])) ≡ false → Inv n d p₀ left₀ row₀ (p - 1) (left - 1) (set (set row (p - 1) 0) (p - 1) 1)
   on-no e l f =
@@ -60,34 +56,28 @@ returns c =
     let m = c .before .before .before .before .pre .1 in
     sym (descent-spent (a .n) (a .d) (l .p) (l .left) (l .row) (omega arith) (one (l .inv) m (omega arith) (c .before .if1 .taken)) (c .if2 .taken)) ∙ l .inv .same
 
-array-share-prefix-row : tie.Need-array-share-prefix-row Inv-loop μ-loop
-array-share-prefix-row c = simp length-set (omega arith)
-
-slice-aggregate-begins-necklace : tie.Need-slice-aggregate-begins-necklace Inv-loop μ-loop
-slice-aggregate-begins-necklace c = sym (length-take-le _ _ (simp length-set (omega arith)))
-
 begins-necklace-requires : tie.Need-begins-necklace-requires Inv-loop μ-loop
 begins-necklace-requires c κs =
-    let l = c .before .before .before .before .loop in
-    let s = c .before .before .before .before .before in
-    (s .pre .1, s .pre .2, tried-length (l .inv) (s .pre .1) (omega arith), tried-symbols (l .inv) (s .pre .1) (omega arith), omega arith)
+    let l = c .before .before .before .loop in
+    let s = c .before .before .before .before in
+    (s .pre .1, s .pre .2, omega (arith, l .inv .inside), tried-symbols (l .inv) (s .pre .1) (omega arith), omega arith)
 
 returns-2 : tie.Need-returns-2 Inv-loop μ-loop
 returns-2 c =
-    let l = c .before .before .before .before .before .before .loop in
-    let s = c .before .before .before .before .before .before .before in
+    let l = c .before .before .before .before .before .loop in
+    let s = c .before .before .before .before .before .before in
     let a = s .args in
     sym
-    (descent-yes (a .n) (a .d) (l .p) (l .left) (l .row) (omega arith) (one (l .inv) (s .pre .1) (omega arith) (c .before .before .before .before .if1 .taken))
-    (pos-of-ne-zero (c .before .before .before .if2 .left))
+    (descent-yes (a .n) (a .d) (l .p) (l .left) (l .row) (omega arith) (one (l .inv) (s .pre .1) (omega arith) (c .before .before .before .if1 .taken))
+    (pos-of-ne-zero (c .before .before .if2 .left))
     (answer-is (l .inv) (s .pre .1) (omega arith) _ true (c .before .begins-necklace .ensures) (c .if3 .taken)))
     ∙ l .inv .same
 
 loop-again : tie.Need-loop-again Inv-loop μ-loop
 loop-again c =
-    let l = c .before .before .before .before .before .before .loop in
-    let s = c .before .before .before .before .before .before .before in
-    on-no (l .inv) (s .pre .1) (omega arith) (c .before .before .before .before .if1 .taken) (pos-of-ne-zero (c .before .before .before .if2 .left))
+    let l = c .before .before .before .before .before .loop in
+    let s = c .before .before .before .before .before .before in
+    on-no (l .inv) (s .pre .1) (omega arith) (c .before .before .before .if1 .taken) (pos-of-ne-zero (c .before .before .if2 .left))
     (answer-is (l .inv) (s .pre .1) (omega arith) _ false (c .before .begins-necklace .ensures) (c .if3 .left))
 
 loop-again-2 : tie.Need-loop-again-2 Inv-loop μ-loop
@@ -111,8 +101,6 @@ descend-spec =
     returns
     (λ c. search needs)
     (λ c. search needs)
-    array-share-prefix-row
-    slice-aggregate-begins-necklace
     begins-necklace-requires
     (λ c. search needs)
     returns-2

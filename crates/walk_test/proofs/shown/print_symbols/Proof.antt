@@ -1,5 +1,4 @@
 -- `walk_test::shown::print_symbols` is safe and ends.
-use mathlib.Core.Path.{sym}
 use Prim.Native.Nat.{_≤_, _-_}
 use borrow.Author.Needs.{needs}
 use Rattle.walk_test.proofs.shown.print_symbols.Statement.{statement}
