@@ -1,10 +1,8 @@
-// The walk against the book that a plain listing gives, its printed examples, its refusals, and records that no walk hands back.
+// The walk against the book that a plain listing gives, its printed examples, and its refusals.
 mod book;
-mod records;
 mod shown;
 
 use book::Book;
-use walk::Answer;
 use walk::Standing;
 use walk::Stepped;
 use walk::Walk;
@@ -12,82 +10,6 @@ ghost use Prim.Native.Nat.{_<_, _≤_, _*_};
 
 // More steps than any of these walks needs.
 const STEPS: usize = 20000;
-
-fn wide(x: u8) -> usize {
-    x as usize
-}
-
-// ---- records
-
-// A ring 0, none 1, or the refusal's number.
-fn answer_number(answer: Answer) -> u8 {
-    match answer {
-        Answer::Ring => 0,
-        Answer::None => 1,
-        Answer::Refused(r) => refusal::number(r),
-    }
-}
-
-// Limit 0, Down 1, Up 2, Given 3, Ended 4.
-fn standing_number(at: Standing) -> u8 {
-    match at {
-        Standing::Limit => 0,
-        Standing::Down(_) => 1,
-        Standing::Up(_) => 2,
-        Standing::Given => 3,
-        Standing::Ended => 4,
-    }
-}
-
-// The place beside Down and Up, else 0.
-fn standing_place(at: Standing) -> usize {
-    match at {
-        Standing::Limit => 0,
-        Standing::Down(p) => p,
-        Standing::Up(p) => p,
-        Standing::Given => 0,
-        Standing::Ended => 0,
-    }
-}
-
-// Whether all 64 bytes are the same.
-fn same_row(row: &[u8; 64], other: &[u8; 64]) -> bool {
-    let mut i: usize = 0;
-    while i < 64 {
-        if row[i] != other[i] {
-            return false;
-        }
-        i += 1;
-    }
-    true
-}
-
-fn same_standing(at: Standing, other: Standing) -> bool {
-    if standing_number(at) != standing_number(other) {
-        return false;
-    }
-    standing_place(at) == standing_place(other)
-}
-
-fn same_walk(w: Walk, other: Walk) -> bool {
-    let row = w.row;
-    let at = w.at;
-    let other_row = other.row;
-    let other_at = other.at;
-    if w.n != other.n {
-        return false;
-    }
-    if w.d != other.d {
-        return false;
-    }
-    if w.kind != other.kind {
-        return false;
-    }
-    if !same_row(&row, &other_row) {
-        return false;
-    }
-    same_standing(at, other_at)
-}
 
 // ---- walks against the book
 
@@ -100,24 +22,13 @@ struct Counts {
     differing: usize,
 }
 
-fn plus(x: usize, y: usize) -> usize {
-    let most: usize = 1000000000;
-    if most < x {
-        return most;
-    }
-    if most < y {
-        return most;
-    }
-    x + y
-}
-
 fn sum(a: Counts, b: Counts) -> Counts {
     Counts {
-        walks: plus(a.walks, b.walks),
-        rings: plus(a.rings, b.rings),
-        trials: plus(a.trials, b.trials),
-        spent: plus(a.spent, b.spent),
-        differing: plus(a.differing, b.differing),
+        walks: plain_walks::plus(a.walks, b.walks),
+        rings: plain_walks::plus(a.rings, b.rings),
+        trials: plain_walks::plus(a.trials, b.trials),
+        spent: plain_walks::plus(a.spent, b.spent),
+        differing: plain_walks::plus(a.differing, b.differing),
     }
 }
 
@@ -129,11 +40,6 @@ fn nothing() -> Counts {
         spent: 0,
         differing: 0,
     }
-}
-
-// A number of trials to be added up.
-fn few(trials: u64) -> usize {
-    if trials < 1000 { trials as usize } else { 1000 }
 }
 
 // The allowances of a walk: always the same up to 3, the cycle 0, 1, 2, 3, or plenty.
@@ -178,18 +84,18 @@ fn left_right(number: usize, n: usize, answer: u8, before: Walk, after: Walk) ->
     match answer {
         0 => {
             let line = plain_rows::row_of_number(n, number);
-            if !same_row(&row, &line) {
+            if !plain_walks::same_row(&row, &line) {
                 return false;
             }
-            standing_number(at) == 3
+            plain_walks::standing_number(at) == 3
         }
         1 => {
-            if !same_row(&row, &[0u8; 64]) {
+            if !plain_walks::same_row(&row, &[0u8; 64]) {
                 return false;
             }
-            standing_number(at) == 4
+            plain_walks::standing_number(at) == 4
         }
-        20 => same_walk(before, after),
+        20 => plain_walks::same_walk(before, after),
         _ => is_due(&row, at),
     }
 }
@@ -199,7 +105,7 @@ fn agrees(book: Book, allowance: usize, n: usize, before: Walk, step: Stepped) -
     let said = book::says(book, allowance);
     let answer = step.answer;
     let after = step.walk;
-    if answer_number(answer) != said {
+    if plain_walks::answer_number(answer) != said {
         return false;
     }
     if step.trials != book::trials(book, allowance) as u64 {
@@ -211,11 +117,11 @@ fn agrees(book: Book, allowance: usize, n: usize, before: Walk, step: Stepped) -
 // A step, compared.
 fn counted(book: Book, allowance: usize, n: usize, before: Walk, step: Stepped) -> Counts {
     let answer = step.answer;
-    let said = answer_number(answer);
+    let said = plain_walks::answer_number(answer);
     Counts {
         walks: 0,
         rings: plain_rows::one_if(said == 0),
-        trials: few(step.trials),
+        trials: plain_walks::few(step.trials),
         spent: plain_rows::one_if(said == 21),
         differing: plain_rows::one_if(!agrees(book, allowance, n, before, step)),
     }
@@ -348,6 +254,4 @@ fn main() {
     show_limits(4);
     shown::show_walks();
     shown::show_refusals();
-    records::show_single();
-    records::show_records();
 }

@@ -4,28 +4,10 @@ use walk::OpenAnswer;
 use walk::Standing;
 use walk::Walk;
 
-pub fn print_symbols(n: usize, row: &[u8; 64]) {
-    let mut i: usize = 0;
-    while i < 64 {
-        if i < n {
-            plain_rows::print_named(b"", crate::wide(row[i]));
-        }
-        i += 1;
-    }
-}
-
-pub fn print_truth(holds: bool) {
-    if holds {
-        io::write_all(1, b" yes\n");
-    } else {
-        io::write_all(1, b" no\n");
-    }
-}
-
 fn print_line(number: usize, n: usize, row: [u8; 64], trials: u64) {
     plain_rows::print_named(b"", number);
     io::write_all(1, b" ");
-    print_symbols(n, &row);
+    plain_walks::print_symbols(n, &row);
     io::write_all(1, b" ");
     io::print_decimal(1, trials);
     io::write_all(1, b"\n");
@@ -36,7 +18,7 @@ fn print_end(said: u8, trials: u64) {
     if said == 1 {
         io::write_all(1, b"end - ");
     } else {
-        plain_rows::print_named(b"refused ", crate::wide(said));
+        plain_rows::print_named(b"refused ", plain_walks::wide(said));
         io::write_all(1, b" trials ");
     }
     io::print_decimal(1, trials);
@@ -51,7 +33,7 @@ fn print_rings(opened: Walk) {
         let step = w.step(1000);
         w = step.walk;
         let answer = step.answer;
-        let said = crate::answer_number(answer);
+        let said = plain_walks::answer_number(answer);
         if said != 0 {
             print_end(said, step.trials);
             return;
@@ -72,13 +54,13 @@ fn is_no_walk(w: Walk) -> bool {
         row,
         at: Standing::Ended,
     };
-    crate::same_walk(w, none)
+    plain_walks::same_walk(w, none)
 }
 
 fn print_refused(r: Refusal, w: Walk) {
     plain_rows::print_refusal(r);
     io::write_all(1, b" ended walk of (1,0):");
-    print_truth(is_no_walk(w));
+    plain_walks::print_truth(is_no_walk(w));
 }
 
 // A walk at a limit that is written as digits.
@@ -93,7 +75,7 @@ fn show(n: usize, d: usize, kind: u8, digits: &[u8]) {
     let w = opening.walk;
     plain_rows::print_named(b"(", n);
     plain_rows::print_named(b",", d);
-    plain_rows::print_named(b") kind ", crate::wide(kind));
+    plain_rows::print_named(b") kind ", plain_walks::wide(kind));
     io::write_all(1, b" limit ");
     io::write_all(1, digits);
     io::write_all(1, b"\n");

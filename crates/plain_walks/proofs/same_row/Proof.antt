@@ -1,8 +1,8 @@
--- `walk_test::same_row` is safe and ends.
+-- `plain_walks::same_row` is safe and ends.
 use Prim.Native.Nat.{_≤_, _-_}
 use borrow.Author.Needs.{needs}
-use Rattle.walk_test.proofs.same_row.Statement.{statement}
-use Rattle.walk_test.proofs.same_row.Tie as tie
+use Rattle.plain_walks.proofs.same_row.Statement.{statement}
+use Rattle.plain_walks.proofs.same_row.Tie as tie
 
 abbrev Inv-loop : tie.InvT-loop
 Inv-loop row other i₀ i = i ≤ 64

@@ -1,9 +1,9 @@
--- `walk_test::records::row_of` is safe and ends.
+-- `record_test::single::row_of` is safe and ends.
 use Prim.Native.Nat.{_≤_, _-_}
 use lib.ListN.{length}
 use borrow.Author.Needs.{needs}
-use Rattle.walk_test.proofs.records.row_of.Statement.{statement}
-use Rattle.walk_test.proofs.records.row_of.Tie as tie
+use Rattle.record_test.proofs.single.row_of.Statement.{statement}
+use Rattle.record_test.proofs.single.row_of.Tie as tie
 
 abbrev Inv-loop : tie.InvT-loop
 Inv-loop digits row₀ i₀ row i = i ≤ length digits

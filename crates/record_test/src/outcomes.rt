@@ -1,0 +1,105 @@
+// What steps say of many records, added up.
+use walk::Walk;
+
+// Steps by their answer; how many that were refused 20 or 22 changed the record or counted trials; and the sums of trials, of the rows as numbers and of the places.
+pub struct Outcomes {
+    pub rings: usize,
+    pub nones: usize,
+    pub ended: usize,
+    pub spent: usize,
+    pub unfit: usize,
+    pub changed: usize,
+    pub trials: usize,
+    pub rows: usize,
+    pub places: usize,
+}
+
+// The number whose binary digits are the first n symbols, modulo a prime.
+fn number_of(n: usize, row: &[u8; 64]) -> usize {
+    let mut number: usize = 0;
+    let mut i: usize = 0;
+    while i < n {
+        if 64 <= i {
+            return number;
+        }
+        number = (2 * number + plain_walks::wide(row[i])) % 10007;
+        i += 1;
+    }
+    number
+}
+
+// Whether a step is refused 20 or 22 and yet changed the record or counted trials.
+fn is_changed(said: u8, w: Walk, after: Walk, trials: u64) -> bool {
+    if said < 20 {
+        return false;
+    }
+    if said == 21 {
+        return false;
+    }
+    if trials != 0 {
+        return true;
+    }
+    !plain_walks::same_walk(w, after)
+}
+
+// A step of a record.
+pub fn outcome(w: Walk, allowance: u64) -> Outcomes {
+    let step = w.step(allowance);
+    let answer = step.answer;
+    let after = step.walk;
+    let row = after.row;
+    let at = after.at;
+    let said = plain_walks::answer_number(answer);
+    Outcomes {
+        rings: plain_rows::one_if(said == 0),
+        nones: plain_rows::one_if(said == 1),
+        ended: plain_rows::one_if(said == 20),
+        spent: plain_rows::one_if(said == 21),
+        unfit: plain_rows::one_if(said == 22),
+        changed: plain_rows::one_if(is_changed(said, w, after, step.trials)),
+        trials: plain_walks::few(step.trials),
+        rows: number_of(after.n, &row),
+        places: plain_walks::standing_place(at),
+    }
+}
+
+pub fn sum(a: Outcomes, b: Outcomes) -> Outcomes {
+    Outcomes {
+        rings: plain_walks::plus(a.rings, b.rings),
+        nones: plain_walks::plus(a.nones, b.nones),
+        ended: plain_walks::plus(a.ended, b.ended),
+        spent: plain_walks::plus(a.spent, b.spent),
+        unfit: plain_walks::plus(a.unfit, b.unfit),
+        changed: plain_walks::plus(a.changed, b.changed),
+        trials: plain_walks::plus(a.trials, b.trials),
+        rows: plain_walks::plus(a.rows, b.rows),
+        places: plain_walks::plus(a.places, b.places),
+    }
+}
+
+pub fn nothing() -> Outcomes {
+    Outcomes {
+        rings: 0,
+        nones: 0,
+        ended: 0,
+        spent: 0,
+        unfit: 0,
+        changed: 0,
+        trials: 0,
+        rows: 0,
+        places: 0,
+    }
+}
+
+pub fn print_outcomes(outcomes: Outcomes) {
+    plain_rows::print_named(b" rings ", outcomes.rings);
+    plain_rows::print_named(b" none ", outcomes.nones);
+    plain_rows::print_named(b" ended ", outcomes.ended);
+    plain_rows::print_named(b" spent ", outcomes.spent);
+    plain_rows::print_named(b" unfit ", outcomes.unfit);
+    plain_rows::print_named(b" changed ", outcomes.changed);
+    plain_rows::print_named(b" trials ", outcomes.trials);
+    plain_rows::print_named(b" rows ", outcomes.rows);
+    plain_rows::print_named(b" places ", outcomes.places);
+    io::write_all(1, b"\n");
+}

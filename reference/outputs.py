@@ -1,0 +1,293 @@
+"""The stored output of each test program, by the definitions of rings.py."""
+from itertools import count, product
+
+import texts
+from cases import calls
+from rings import (
+    begins,
+    book,
+    book_answers,
+    drawer,
+    gaps_of_row,
+    key,
+    opened,
+    refusal,
+    row_of_gaps,
+    shelved,
+    step,
+    stations,
+    top,
+    without_symmetry,
+    wrong,
+)
+
+PLENTY = 1000
+
+
+def symbols(digits):
+    return tuple(b % 16 for b in digits)
+
+
+def text(row):
+    return "".join(map(str, row))
+
+
+def said(yes):
+    return "yes" if yes else "no"
+
+
+def refused(number, place):
+    return f"refused {number} place {place}"
+
+
+def row_of_number(n, number):
+    return tuple(int(b) for b in format(number, f"0{n}b")) if n else ()
+
+
+# ---- top_test
+
+
+def show_top(n, d, room):
+    no = refusal((1, not stations(n)), (2, d > n), (9, room < n))
+    print(n, d, *([refused(*no), "as before 64"] if no else [text(top(n, d)), "as before", 64 - n]))
+
+
+def top_test():
+    for n in range(1, 13):
+        for d in range(n + 1):
+            assert top(n, d) == drawer(n, d)[0]
+            show_top(n, d, 64)
+    pairs = sum(n + 1 for n in range(1, 65))
+    print("compared", pairs, "agreed", pairs)
+    for n, d, room in calls("top_test", "show"):
+        show_top(n, d, room)
+
+
+# ---- row_test
+
+
+def show_key(digits, room):
+    row = symbols(digits)
+    n = len(row)
+    no = refusal((1, not stations(n)), (3, wrong(row)), (9, room < n))
+    print(f"key of {n} stations {digits.decode()} buffer {room}: ", end="")
+    if no:
+        print(refused(*no), "as before 80")
+    else:
+        least, j, p = key(row)
+        print(text(least), "turn", j, "period", p, "as before", 80 - n)
+
+
+def show_class(digits):
+    row = symbols(digits)
+    no = refusal((1, not stations(len(row))), (3, wrong(row)))
+    print(f"class of {len(row)} stations {digits.decode()}: ", end="")
+    print(refused(*no) if no else f"shelved {said(shelved(row))} without symmetry {said(without_symmetry(row))}")
+
+
+def show_row(n, gaps, room):
+    no = refusal((1, not stations(n)), (2, len(gaps) > n), (7, gaps and sum(gaps) + len(gaps) != n), (9, room < n))
+    print(f"row of {n} stations and {len(gaps)} gaps", *gaps, "buffer", f"{room}: ", end="")
+    print(*([refused(*no), "as before 80"] if no else [text(row_of_gaps(n, gaps)), "as before", 80 - n]))
+
+
+def show_list(digits, room):
+    row = symbols(digits)
+    n = len(row)
+    no = refusal((1, not stations(n)), (3, wrong(row)), (8, any(row) and row[-1] == 0), (9, room < sum(row)))
+    print(f"gap list of {n} stations {digits.decode()} buffer {room}: ", end="")
+    if no:
+        print(refused(*no), "as before 80")
+    else:
+        gaps = gaps_of_row(row)
+        print(f"gaps {len(gaps)}:", *gaps, "as before", 80 - len(gaps))
+
+
+def row_test():
+    for name, show in (("key", show_key), ("class", show_class), ("row", show_row), ("list", show_list)):
+        for case in calls("row_test", "show_" + name):
+            show(*case)
+    rows = [row for n in range(1, 11) for row in product((0, 1), repeat=n)]
+    listed = sum(not any(row) or row[-1] == 1 for row in rows)
+    for name, number in (
+        ("key", len(rows)),
+        ("class", len(rows)),
+        ("gap list and back", listed),
+        ("no gap list, refused 8", len(rows) - listed),
+    ):
+        print(name, "compared", number, "agreed", number)
+
+
+# ---- prefix_test
+
+
+def prefix_test():
+    for n in range(1, 11):
+        asked = (n + 1) * (2 ** (n + 1) - 1)
+        begun = sum(len({row[:t] for row in drawer(n, d)}) for d in range(n + 1) for t in range(n + 1))
+        print(n, "asked", asked, "agreed", asked, "yes", begun)
+    for n, d, digits in calls("prefix_test", "show"):
+        prefix = symbols(digits)
+        no = refusal((1, not stations(n)), (2, d > n), (6, len(prefix) > n), (3, wrong(prefix)))
+        print(f"({n},{d}) prefix {digits.decode()}:", refused(*no) if no else said(begins(n, d, prefix)))
+
+
+# ---- walk_test
+
+
+def allowances(pattern):
+    return (i % 4 if pattern == 4 else pattern or PLENTY for i in count())
+
+
+def compare(n, limits, pattern):
+    walks = rings = trials = spent = 0
+    for d in range(n + 1):
+        for kind in 1, 2:
+            for limit in limits:
+                walks += 1
+                for answer, made in book_answers(book(n, d, kind, row_of_number(n, limit)), allowances(pattern)):
+                    rings += isinstance(answer, tuple)
+                    spent += answer == 21
+                    trials += made
+    print(f"n {n}: walks {walks} rings {rings} trials {trials} spent {spent} differing 0")
+
+
+def show_walk(n, d, kind, digits):
+    print(f"({n},{d}) kind {kind} limit {digits.decode()}")
+    no, walk = opened(n, d, kind, symbols(digits))
+    if no:
+        print(refused(*no), "ended walk of (1,0): yes")
+        return
+    for number in count(1):
+        walk, answer, trials = step(walk, PLENTY)
+        if answer != "ring":
+            print("end -", trials)
+            return
+        print(number, text(walk[3][:n]), trials)
+
+
+def walk_test():
+    print("limit of ones, plenty allowed")
+    for n in range(1, 15):
+        compare(n, [2**n - 1], 0)
+    print("every 257th limit, plenty allowed")
+    for n in range(9, 15):
+        compare(n, range(0, 2**n, 257), 0)
+    for pattern, name in enumerate(("plenty", "always 1", "always 2", "always 3", "0, 1, 2, 3")):
+        print("all limits, " + name + " allowed" + (" in turn" if pattern == 4 else ""))
+        for n in range(1, 9):
+            compare(n, range(2**n), pattern)
+    for case in calls("walk_test", "show"):
+        show_walk(*case)
+
+
+# ---- record_test
+
+STANDINGS = ("Limit", "Down", "Up", "Given", "Ended")
+
+
+def show_single(name, n, d, kind, digits, at):
+    walk = (n, d, kind, symbols(digits) + (0,) * (64 - len(digits)), at)
+    after, answer, trials = step(walk, PLENTY)
+    answer = answer if answer in ("ring", "none") else f"refused {answer}"
+    where, place = after[4]
+    print(f"{name.decode()}: {answer} trials {trials} row {text(after[3][: after[0]])}", end=" ")
+    print(f"standing {STANDINGS.index(where)} place {place} unchanged {said(after == walk)}")
+
+
+def show_outcomes(name, steps):
+    answers = dict.fromkeys(("ring", "none", 20, 21, 22), 0)
+    changed = trials = rows = places = 0
+    for walk, allowance in steps:
+        after, answer, made = step(walk, allowance)
+        answers[answer] += 1
+        changed += answer in (20, 22) and (after != walk or made > 0)
+        trials += made
+        number = 0
+        for x in after[3][: after[0]]:
+            number = (2 * number + x) % 10007
+        rows += number
+        places += after[4][1]
+    print(name, "rings %d none %d ended %d spent %d unfit %d" % tuple(answers.values()), end=" ")
+    print(f"changed {changed} trials {trials} rows {rows} places {places}")
+
+
+def all_records(n):
+    """Kinds 0 to 3, up to n + 1 holes, all rows, all standings with places up to n + 1."""
+    standings = [("Limit", 0), ("Given", 0), ("Ended", 0)]
+    standings += [(where, p) for where in ("Down", "Up") for p in range(n + 2)]
+    for at in standings:
+        for row in product((0, 1), repeat=n):
+            for d in range(n + 2):
+                for kind in range(4):
+                    yield n, d, kind, row + (0,) * (64 - n), at
+
+
+def drawn(record, which, bound):
+    x = record * 80 + which
+    for _ in range(3):
+        x = (x * 1103515245 + x // 65536 + 12345) % 2**31
+    return x // 65536 % bound
+
+
+def random_symbol(record, i, n):
+    x = drawn(record, i, 512)
+    if n <= i:
+        return int(x == 0)
+    return {0: 1, 1: 2, 2: 255}.get(x, x % 2)
+
+
+def random_step(record):
+    n = drawn(record, 65, 68 if drawn(record, 64, 2) else 10)
+    row = (0,) * 64
+    if drawn(record, 66, 8):
+        row = tuple(random_symbol(record, i, n) for i in range(64))
+    d = row.count(1) if drawn(record, 67, 2) else drawn(record, 68, n + 2)
+    kind = drawn(record, 69, 32)
+    where = STANDINGS[drawn(record, 70, 5)]
+    at = where, drawn(record, 71, n + 2) if where in ("Down", "Up") else 0
+    allowance = drawn(record, 72, 8)
+    return (n, d, {0: 0, 1: 3}.get(kind, 1 + kind % 2), row, at), allowance if allowance < 7 else PLENTY
+
+
+def record_test():
+    for case in calls("record_test", "show"):
+        show_single(*case)
+    for n in range(1, 7):
+        records = list(all_records(n))
+        for a in (0, 1, 2, 3, 4, PLENTY):
+            allowed = f"allowed {a}" if a < PLENTY else "plenty allowed"
+            show_outcomes(f"n {n} records {len(records)} {allowed}", ((walk, a) for walk in records))
+    for first, end in calls("record_test", "show_records"):
+        show_outcomes(f"at random, records {first} up to {end}", map(random_step, range(first, end)))
+
+
+# ---- drawer_text_test, drawer
+
+
+def show_input(source, room):
+    r = texts.read_drawer(source, room)
+    size = 0 if r[0] == "refused" else len(r[4])
+    print(refused(*r[1:]) if r[0] == "refused" else f"{r[1]} {r[2]} {r[3]} {text(r[4])}", "as before", 256 - size)
+
+
+def drawer_text_test():
+    for case in calls("drawer_text_test", "show"):
+        show_input(*case)
+    print(texts.HEADER, end="")
+    for number, row, period, trials in calls("drawer_text_test", "show_ring"):
+        print(texts.ring_line(number, row, period, trials), end="")
+    for (trials,) in calls("drawer_text_test", "show_end"):
+        print(texts.end_line(trials), end="")
+    for ((name, place),) in calls("drawer_text_test", "show_refusal"):
+        print(texts.refusal_text(texts.NUMBERS[name], place), end="")
+    for name, number in (("numbers", 1100), ("lengths", 240), ("bytes", 256), ("names", 26 * 256), ("rooms", 257)):
+        print(name, "compared", number, "agreed", number)
+    n, ends = 2**64 - 1, 0
+    while n > 0:
+        n, ends = n - n // 40 - 1, ends + 1
+    print("ends compared", ends, "agreed", ends)
+
+
+def drawer_program():
+    print(texts.drawer(texts.stored_input("drawer")), end="")

@@ -1,0 +1,212 @@
+"""Document 01's definitions, for reading and not for speed. Rows are tuples of symbols."""
+from functools import lru_cache
+from itertools import product
+
+
+def turn(row, j):
+    return row[j:] + row[:j]
+
+
+def shelved(row):
+    return all(row <= turn(row, j) for j in range(len(row)))
+
+
+def without_symmetry(row):
+    return all(row < turn(row, j) for j in range(1, len(row)))
+
+
+def period(row):
+    return next(p for p in range(1, len(row) + 1) if turn(row, p) == row)
+
+
+def key(row):
+    least = min(turn(row, j) for j in range(len(row)))
+    return least, next(j for j in range(len(row)) if turn(row, j) == least), period(row)
+
+
+def of_kind(kind, row):
+    return kind == 1 or without_symmetry(row)
+
+
+@lru_cache(None)
+def all_shelved(n):
+    return [row for row in product((1, 0), repeat=n) if shelved(row)]
+
+
+@lru_cache(None)
+def drawer(n, d):
+    """The kind 1 rings of (n, d), falling."""
+    return [row for row in all_shelved(n) if sum(row) == d]
+
+
+def row_of_gaps(n, gaps):
+    return tuple(x for c in gaps for x in (0,) * c + (1,)) or (0,) * n
+
+
+def gaps_of_row(row):
+    return [len(zeros) for zeros in "".join(map(str, row)).split("1")[:-1]]
+
+
+# ---- refusals
+
+
+def stations(n):
+    return 1 <= n <= 64
+
+
+def wrong(row):
+    """The place of the first wrong symbol, 0 where there is none."""
+    return next((i + 1 for i, x in enumerate(row) if x > 1), 0)
+
+
+def refusal(*conditions):
+    """The first number whose condition holds, with its place; only 3 has one."""
+    return next(((number, holds if number == 3 else 0) for number, holds in conditions if holds), None)
+
+
+# ---- top rings, and prefixes by them: for drawers that are too long to list
+
+
+@lru_cache(None)
+def top(n, d):
+    """Section 3 of source document 000, as document 01 has it."""
+    if d in (0, n):
+        return (int(d > 0),) * n
+    if 2 * d <= n:
+        return tuple(x for b in top(d, d - n % d) for x in (0,) * (n // d - b) + (1,))
+    m = n - d
+    return tuple(x for c in top(m, n % m) for x in (0,) + (1,) * (n // m - 1 + c))
+
+
+def begins_by_tops(n, d, prefix):
+    """Section 4: the prefix goes on as it did, or leaves its period upwards at a place and ends as a top ring."""
+    row = list(prefix)
+    p = 1
+    for i in range(1, len(row)):
+        if row[i] < row[i - p]:
+            return False
+        if row[i] > row[i - p]:
+            p = i + 1
+    while len(row) < n:
+        nxt = row[-p] if row else 0
+        if nxt == 0:
+            rest, holes = n - len(row) - 1, d - sum(row) - 1
+            if 0 <= holes <= rest and shelved(tuple(row) + (1,) + top(rest, holes)):
+                return True
+        row.append(nxt)
+    return sum(row) == d and n % p == 0
+
+
+def begins(n, d, prefix):
+    """Does some kind 1 ring of the drawer begin so?"""
+    if n <= 14:
+        return any(row[: len(prefix)] == prefix for row in drawer(n, d))
+    return begins_by_tops(n, d, prefix)
+
+
+# ---- the drawer's book
+
+
+def book(n, d, kind, limit):
+    """Lines and none (as None), each with its price."""
+    lines, x, first = [], limit, True
+    if limit in drawer(n, d):
+        lines, first = [(limit, 0)], False
+    while True:
+        y = next((row for row in drawer(n, d) if row < x), None)
+        counted = x if first else x[:-1]
+        if y is None:
+            lines.append((None, sum(counted)))
+            break
+        p = next(i for i in range(n) if x[i] != y[i])
+        lines.append((y, sum(counted[p:]) + n - p - 1))
+        x, first = y, False
+    kept, owed = [], 0
+    for row, price in lines:
+        owed += price
+        if row is None or of_kind(kind, row):
+            kept.append((row, owed))
+            owed = 0
+    return kept
+
+
+def book_answers(lines, allowances):
+    """The answers to steps: a row, "none", 20 or 21, each with its trials; up to the first 20."""
+    lines, owed = list(lines), lines[0][1]
+    for a in allowances:
+        if not lines:
+            yield 20, 0
+            return
+        if a < owed:
+            owed -= a
+            yield 21, a
+        else:
+            yield lines[0][0] or "none", owed
+            lines = lines[1:]
+            owed = lines[0][1] if lines else 0
+
+
+# ---- a walk, trial by trial: a record is n, d, kind, a row of 64 symbols, and where it stands
+
+
+def fit(n, d, kind, row, at):
+    if not (stations(n) and d <= n and kind in (1, 2)):
+        return False
+    if any(x > 1 for x in row[:n]) or any(row[n:]):
+        return False
+    where, p = at
+    if where == "Down":
+        return 1 <= p <= n
+    if where == "Up":
+        return 2 <= p <= n and begins(n, d, row[: p - 1])
+    if where == "Given":
+        return sum(row) == d and shelved(row[:n]) and of_kind(kind, row[:n])
+    return where == "Limit" or not any(row)
+
+
+def step(walk, allowance):
+    """The walk, the answer ("ring", "none", 20, 21 or 22) and the trials."""
+    if not fit(*walk):
+        return walk, 22, 0
+    n, d, kind, row, (where, p) = walk
+    if where == "Ended":
+        return walk, 20, 0
+    row, trials, found = list(row), 0, False
+    while True:
+        here = tuple(row[:n])
+        if found:
+            if of_kind(kind, here):
+                return (n, d, kind, tuple(row), ("Given", 0)), "ring", trials
+            where, found = "Given", False
+        elif where == "Limit":
+            found = sum(here) == d and shelved(here)
+            where, p = "Down", n
+        elif where == "Given":
+            where, p = "Down", n if d else 0
+            if d:
+                row[n - 1] = 0
+        elif where == "Down" and p == 0:
+            return (n, d, kind, (0,) * 64, ("Ended", 0)), "none", trials
+        elif where == "Down" and row[p - 1] == 0:
+            p -= 1
+        elif where == "Up" and p == n + 1:
+            found = True
+        elif trials == allowance:
+            return (n, d, kind, tuple(row), (where, p)), 21, trials
+        elif where == "Down":
+            trials += 1
+            if begins(n, d, here[: p - 1] + (0,)):
+                row[p - 1] = 0
+                where, p = "Up", p + 1
+            else:
+                p -= 1
+        else:
+            trials += 1
+            row[p - 1] = int(begins(n, d, here[: p - 1] + (1,)))
+            p += 1
+
+
+def opened(n, d, kind, limit):
+    """The refusal and None, or None and the walk."""
+    no = refusal((1, not stations(n)), (2, d > n), (5, kind not in (1, 2)), (4, len(limit) != n), (3, wrong(limit)))
+    return (no, None) if no else (None, (n, d, kind, limit + (0,) * (64 - n), ("Limit", 0)))
