@@ -5,6 +5,7 @@ import texts
 from cases import calls
 from rings import (
     begins,
+    begins_by_tops,
     book,
     book_answers,
     drawer,
@@ -123,9 +124,10 @@ def row_test():
 
 def prefix_test():
     for n in range(1, 11):
-        asked = (n + 1) * (2 ** (n + 1) - 1)
-        begun = sum(len({row[:t] for row in drawer(n, d)}) for d in range(n + 1) for t in range(n + 1))
-        print(n, "asked", asked, "agreed", asked, "yes", begun)
+        begun = {(d, row[:t]) for d in range(n + 1) for row in drawer(n, d) for t in range(n + 1)}
+        asked = [(d, prefix) for d in range(n + 1) for t in range(n + 1) for prefix in product((0, 1), repeat=t)]
+        assert all(begins_by_tops(n, d, prefix) == ((d, prefix) in begun) for d, prefix in asked)
+        print(n, "asked", len(asked), "agreed", len(asked), "yes", len(begun))
     for n, d, digits in calls("prefix_test", "show"):
         prefix = symbols(digits)
         no = refusal((1, not stations(n)), (2, d > n), (6, len(prefix) > n), (3, wrong(prefix)))
