@@ -8,7 +8,8 @@ use lib.Dec.{leb}
 use lib.ListN.{drop, length, length-drop, length-map, take}
 use lib.Seq.{length-take-le}
 use borrow.Author.Tests.{eq-eqb, le-leb, lt-leb, ne-eqb}
-use Rattle.drawer_text.specs.Input.{Input, asked, faulty, inputOf, limitWritten, mostBytes, names, readDrawer, requestOf, symbolOf, valuesAt}
+use Rattle.text.specs.Symbols.{symbolOf}
+use Rattle.drawer_text.specs.Input.{Input, asked, faulty, inputOf, limitWritten, mostBytes, names, readDrawer, requestOf, valuesAt}
 use Rattle.drawer_text.specs.declared.Request.{Request}
 use Rattle.drawer_text.specs.declared.Values.the-variants.{Line, NoLine}
 use Rattle.words.specs.Tests.{isPrefix}

@@ -7,14 +7,15 @@ use lib.ListN.{length, drop, take}
 use Rattle.words.specs.Tests.{isPrefix}
 use Rattle.refusal.specs.Refusals.{numberOf, placeOf}
 use Rattle.refusal.specs.declared.Refusal.the-variants.{Text, Buffer}
-use Rattle.drawer_text.specs.declared.Bytes.the-variants.{Unspaced}
-use Rattle.drawer_text.specs.declared.Numeral.{Numeral}
-use Rattle.drawer_text.specs.declared.Numeral.the-variants.{Number, NoNumber}
+use Rattle.text.specs.declared.Bytes.the-variants.{Unspaced}
+use Rattle.text.specs.declared.Numeral.{Numeral}
+use Rattle.text.specs.declared.Numeral.the-variants.{Number, NoNumber}
 use Rattle.drawer_text.specs.declared.Values.{Values}
 use Rattle.drawer_text.specs.declared.Values.the-variants.{Line, NoLine}
 use Rattle.drawer_text.specs.declared.Request.{Request}
 use Rattle.drawer_text.specs.declared.Request.the-variants.{Drawer, Refused}
-use Rattle.drawer_text.specs.Parts.{feed, run, spacedAt}
+use Rattle.text.specs.Parts.{feed, run, spacedAt}
+use Rattle.text.specs.Symbols.{symbolOf}
 
 -- `stations holes kind limit` and a line feed
 abbrev pub names : List ℕ
@@ -42,10 +43,6 @@ unfoldable pub valuesAt : List ℕ → ℕ → Values
 valuesAt s at = behind (spacedAt s at) (λ n p. behind (spacedAt s p) (λ d q. behind (spacedAt s q) (limitAt s n d)))
 
 -- ---- the whole input
-
--- "The characters 0 and 1 stand for the symbols, and any other byte counts as a wrong symbol."
-abbrev pub symbolOf : ℕ → ℕ
-symbolOf b = cond (eqb b 48) 0 (cond (eqb b 49) 1 2)
 
 -- what the program is asked: stations, holes, kind and the limit's symbols; or the line that refusal 10 names
 pub data Input : Type 0 where
