@@ -71,6 +71,12 @@ limitWritten (faulty line) out = out
 
 -- ---- document 01's numbers: the refusal or 0, its place, stations, holes, kind, and the limit's length
 
+-- the numbers of each case of the answer: "any other number returned beside it is 0"
 abbrev pub requestNumbers : Request → ℕ × ℕ × ℕ × ℕ × ℕ × ℕ
 requestNumbers (Drawer n d kind size) = (0, 0, n, d, kind, size)
 requestNumbers (Refused r) = (numberOf r, placeOf r, 0, 0, 0, 0)
+
+-- the numbers that are due: what is asked, 9 where the limit does not fit, or 10 and the faulty line
+abbrev pub requestDue : Input → ℕ → ℕ × ℕ × ℕ × ℕ × ℕ × ℕ
+requestDue (asked n d kind limit) room = cond (leb (length limit) room) (0, 0, n, d, kind, length limit) (9, 0, 0, 0, 0, 0)
+requestDue (faulty line) room = (10, line, 0, 0, 0, 0)

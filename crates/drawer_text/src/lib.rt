@@ -4,7 +4,7 @@ pub mod parse;
 use refusal::Refusal;
 ghost use mathlib.Core.Path.{_≡_};
 ghost use lib.ListN.{length};
-ghost use Rattle.drawer_text.specs.Input.{readDrawer, requestOf, limitWritten};
+ghost use Rattle.drawer_text.specs.Input.{readDrawer, requestOf, requestNumbers, requestDue, limitWritten};
 ghost use Rattle.drawer_text.specs.Lines.{header, ringLine, endLine, refusalText, written, countOf};
 
 // A line of values: stations, holes, kind, and where the limit starts and how long it is.
@@ -21,7 +21,9 @@ pub enum Request {
 
 // Reads the drawer program's input. The limit's symbols are written to the front of a lent buffer.
 pub fn read_drawer(text: &[u8], limit: &mut [u8]) -> Request
-    ensures { λ r. ⌜ (r ≡ requestOf (readDrawer (now (text .entry))) (length (now (limit .entry)))) × (now (limit .exit) ≡ limitWritten (readDrawer (now (text .entry))) (now (limit .entry))) ⌝ }
+    ensures answer { λ r. ⌜ r ≡ requestOf (readDrawer (now (text .entry))) (length (now (limit .entry))) ⌝ }
+    ensures numbers { λ r. ⌜ requestNumbers r ≡ requestDue (readDrawer (now (text .entry))) (length (now (limit .entry))) ⌝ }
+    ensures buffer { λ _. ⌜ now (limit .exit) ≡ limitWritten (readDrawer (now (text .entry))) (now (limit .entry)) ⌝ }
 {
     if 256 < text.len() {
         return Request::Refused(Refusal::Text(1));
