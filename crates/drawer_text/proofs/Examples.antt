@@ -1,12 +1,14 @@
 -- Document 01's example: its input, and lines that it prints.
--- `stations holes kind limit` and `6 3 1 111111`
 use mathlib.Core.List.{[], _∷_}
 use mathlib.Core.Path.{refl, _≡_}
 use Rattle.drawer_text.specs.Input.{asked, faulty, limitAt, readDrawer, valuesAt}
-use Rattle.drawer_text.specs.Lines.{decimal, decimalBy, endLine, field, ringLine, rowField}
-use Rattle.drawer_text.specs.Parts.{belongs, isNumeral, numeralAt, run, spacedAt, valueFrom}
+use Rattle.text.specs.Decimals.{decimal, decimalBy, field}
+use Rattle.text.specs.Symbols.{rowField}
+use Rattle.drawer_text.specs.Lines.{endLine, ringLine}
+use Rattle.text.specs.Parts.{belongs, isNumeral, numeralAt, run, spacedAt, valueFrom}
 use Rattle.words.specs.Tests.{isPrefix}
 
+-- `stations holes kind limit` and `6 3 1 111111`
 pub example-input : readDrawer (115 ∷ 116 ∷ 97 ∷ 116 ∷ 105 ∷ 111 ∷ 110 ∷ 115 ∷ 32 ∷ 104 ∷ 111 ∷ 108 ∷ 101 ∷ 115 ∷ 32 ∷ 107 ∷ 105 ∷ 110 ∷ 100 ∷ 32 ∷ 108 ∷ 105 ∷ 109 ∷ 105 ∷ 116 ∷ 10 ∷ 54 ∷ 32 ∷ 51 ∷ 32 ∷ 49 ∷ 32 ∷ 49 ∷ 49 ∷ 49 ∷ 49 ∷ 49 ∷ 49 ∷ 10 ∷ []) ≡ asked 6 3 1 (1 ∷ 1 ∷ 1 ∷ 1 ∷ 1 ∷ 1 ∷ [])
 unfolding readDrawer valuesAt limitAt spacedAt numeralAt isNumeral valueFrom run belongs isPrefix
 example-input = refl
@@ -25,8 +27,3 @@ example-ring = refl
 pub example-end : endLine 2 ≡ 101 ∷ 110 ∷ 100 ∷ 32 ∷ 45 ∷ 32 ∷ 45 ∷ 32 ∷ 50 ∷ 10 ∷ []
 unfolding endLine field decimal decimalBy
 example-end = refl
-
--- the largest number of 64 bits
-pub example-large : decimal 18446744073709551615 ≡ 49 ∷ 56 ∷ 52 ∷ 52 ∷ 54 ∷ 55 ∷ 52 ∷ 52 ∷ 48 ∷ 55 ∷ 51 ∷ 55 ∷ 48 ∷ 57 ∷ 53 ∷ 53 ∷ 49 ∷ 54 ∷ 49 ∷ 53 ∷ []
-unfolding decimal decimalBy
-example-large = refl

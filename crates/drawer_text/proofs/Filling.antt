@@ -1,17 +1,25 @@
 -- A line that fills the front of a buffer, piece by piece.
-
--- the text t fills the front of what held O, and the next piece goes to the place `at`
-use mathlib.Core.List.{List, [], _++_, _∷_}
+use mathlib.Core.List.{List, [], _++_}
 use mathlib.Core.Path.{ap, refl, _∙_, _≡_}
 use Prim.Native.Nat.{ℕ, _+_, _<_, _≤_}
 use native.Mathlib.Omega.{arith}
 use lib.ListN.{length, length-append}
+use lib.Seq.{drop-append-add, drop-drop, take-append-seam}
 use borrow.Author.Tests.{le-leb, lt-leb}
-use Rattle.drawer_text.proofs.Written.{length-placed, piece-next, row-length}
-use Rattle.drawer_text.specs.Lines.{countOf, decimal, endLine, field, fronted, placed, refusalText, ringLine, written}
+use Rattle.text.proofs.Digits.{field-length}
+use Rattle.text.proofs.Written.{length-placed, row-length}
+use Rattle.text.specs.Buffers.{placed}
+use Rattle.text.specs.Decimals.{decimal}
+use Rattle.drawer_text.specs.Lines.{countOf, endLine, fronted, refusalText, ringLine, written}
 use Rattle.refusal.specs.Refusals.{numberOf, placeOf}
 use Rattle.refusal.specs.declared.Refusal.{Refusal}
 
+-- a piece behind a text that fills the front
+piece-next : (t p d o o′ : List ℕ) (at : ℕ) → at ≡ length t → o ≡ fronted t d → o′ ≡ placed o at p → o′ ≡ fronted (t ++ p) d
+piece-next t p d o o′ at h e f =
+    f ∙ rw (e, h, take-append-seam, drop-append-add, drop-drop, length-append)
+
+-- the text t fills the front of what held O, and the next piece goes to the place `at`
 pub record Filled (O t o : List ℕ) (at : ℕ) : Type 0 where
   pub place : at ≡ length t
   pub front : o ≡ fronted t O
@@ -37,10 +45,6 @@ pub too-short : (text O : List ℕ) → length O < length text → (0 ≡ countO
 too-short text O h = rw (lt-leb (length text) (length O) h) (refl, refl)
 
 -- ---- the lengths of the lines
-
-pub field-length : (n end : ℕ) → length (field n end) ≡ length (decimal n) + 1
-unfolding field
-field-length n end = length-append (decimal n) (end ∷ [])
 
 pub ring-length : (number : ℕ) (row : List ℕ) (period trials : ℕ) → length (ringLine number row period trials) ≡ length row + (length (decimal number) + length (decimal period) + length (decimal trials) + 4)
 unfolding ringLine

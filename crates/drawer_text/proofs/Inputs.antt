@@ -1,20 +1,32 @@
 -- The whole input, by the first test that it fails.
-use mathlib.Core.Bool.{cond, false, true}
+use mathlib.Core.Bool.{Bool, cond, false, true}
 use mathlib.Core.List.{List, map, _++_}
-use mathlib.Core.Path.{_∙_, _≡_}
+use mathlib.Core.Path.{ap, refl, _∙_, _≡_}
 use Prim.Native.Nat.{ℕ, _+_, _-_, _<_, _≤_}
 use native.Mathlib.Omega.{arith}
 use lib.Dec.{leb}
 use lib.ListN.{drop, length, length-drop, length-map, take}
 use lib.Seq.{length-take-le}
 use borrow.Author.Tests.{eq-eqb, le-leb, lt-leb, ne-eqb}
-use Rattle.drawer_text.specs.Input.{Input, asked, faulty, inputOf, limitWritten, mostBytes, names, readDrawer, requestOf, symbolOf, valuesAt}
+use Rattle.text.specs.Symbols.{symbolOf}
+use Rattle.drawer_text.specs.Input.{Input, asked, faulty, inputOf, limitWritten, mostBytes, names, readDrawer, requestDue, requestNumbers, requestOf, valuesAt}
 use Rattle.drawer_text.specs.declared.Request.{Request}
+use Rattle.drawer_text.specs.declared.Request.the-variants.{Drawer, Refused}
+use Rattle.refusal.specs.declared.Refusal.the-variants.{Buffer}
 use Rattle.drawer_text.specs.declared.Values.the-variants.{Line, NoLine}
 use Rattle.words.specs.Tests.{isPrefix}
 
-pub from-input : (s out : List ℕ) (i : Input) → readDrawer s ≡ i → (r : Request) (o : List ℕ) → r ≡ requestOf i (length out) → o ≡ limitWritten i out → (r ≡ requestOf (readDrawer s) (length out)) × (o ≡ limitWritten (readDrawer s) out)
-from-input s out i e r o p q = rw e (p, q)
+-- an answer has the numbers that are due
+numbers-due : (i : Input) (room : ℕ) → requestNumbers (requestOf i room) ≡ requestDue i room
+numbers-due (asked n d kind limit) room = go (leb (length limit) room)
+  where
+    go : (t : Bool) → requestNumbers (cond t (Drawer n d kind (length limit)) (Refused Buffer)) ≡ cond t (0, 0, n, d, kind, length limit) (9, 0, 0, 0, 0, 0)
+    go true = refl
+    go false = refl
+numbers-due (faulty line) room = refl
+
+pub from-input : (s out : List ℕ) (i : Input) → readDrawer s ≡ i → (r : Request) (o : List ℕ) → r ≡ requestOf i (length out) → o ≡ limitWritten i out → (r ≡ requestOf (readDrawer s) (length out)) × ((requestNumbers r ≡ requestDue (readDrawer s) (length out)) × (o ≡ limitWritten (readDrawer s) out))
+from-input s out i e r o p q = rw e (p, (ap requestNumbers p ∙ numbers-due i (length out), q))
 
 module _ (s : List ℕ) where
   pub over-long : mostBytes < length s → readDrawer s ≡ faulty 1

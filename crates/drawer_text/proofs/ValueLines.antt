@@ -1,4 +1,4 @@
--- A line of values: each number with a space behind it, the limit, and what stands behind the limit.
+-- A line of values: its numbers, the limit, and what stands behind the limit.
 use mathlib.Core.Bool.{Bool, and-eq-true-iff, cond, false, not, true, _&&_}
 use mathlib.Core.List.{List, [], _∷_}
 use mathlib.Core.Path.{refl, _≡_}
@@ -7,29 +7,15 @@ use native.Mathlib.Omega.{arith}
 use lib.Dec.{eqb}
 use lib.ListN.{drop, length}
 use borrow.Author.Tests.{ne-eqb}
-use Rattle.drawer_text.proofs.Runs.{prefix-inside}
+use Rattle.text.proofs.Runs.{prefix-inside}
 use Rattle.drawer_text.specs.Input.{behind, limitAt, valuesAt}
-use Rattle.drawer_text.specs.Parts.{feed, numeralAt, run, space, spacedAt}
-use Rattle.drawer_text.specs.declared.Bytes.the-variants.{Unspaced}
-use Rattle.drawer_text.specs.declared.Numeral.{Numeral}
-use Rattle.drawer_text.specs.declared.Numeral.the-variants.{NoNumber, Number}
+use Rattle.text.specs.Parts.{feed, run, spacedAt}
+use Rattle.text.specs.declared.Bytes.the-variants.{Unspaced}
+use Rattle.text.specs.declared.Numeral.{Numeral}
+use Rattle.text.specs.declared.Numeral.the-variants.{NoNumber, Number}
 use Rattle.drawer_text.specs.declared.Values.{Values}
 use Rattle.drawer_text.specs.declared.Values.the-variants.{Line, NoLine}
 use Rattle.words.specs.Tests.{isPrefix}
-
-module _ (s : List ℕ) (at : ℕ) where
-  pub no-number : NoNumber ≡ numeralAt s at → NoNumber ≡ spacedAt s at
-  unfolding spacedAt
-  no-number e = rw (← e)
-
-  module _ (v next : ℕ) (e : Number v next ≡ numeralAt s at) where
-    pub no-space : isPrefix (space ∷ []) (drop next s) ≡ false → NoNumber ≡ spacedAt s at
-    unfolding spacedAt
-    no-space h = rw (← e, h)
-
-    pub with-space : isPrefix (space ∷ []) (drop next s) ≡ true → Number v (next + 1) ≡ spacedAt s at
-    unfolding spacedAt
-    with-space h = rw (← e, h)
 
 module _ (s : List ℕ) (n d kind at size : ℕ) (e : size ≡ length (run Unspaced (drop at s))) where
   pub no-limit : size ≡ 0 → NoLine ≡ limitAt s n d kind at

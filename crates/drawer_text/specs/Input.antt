@@ -7,14 +7,15 @@ use lib.ListN.{length, drop, take}
 use Rattle.words.specs.Tests.{isPrefix}
 use Rattle.refusal.specs.Refusals.{numberOf, placeOf}
 use Rattle.refusal.specs.declared.Refusal.the-variants.{Text, Buffer}
-use Rattle.drawer_text.specs.declared.Bytes.the-variants.{Unspaced}
-use Rattle.drawer_text.specs.declared.Numeral.{Numeral}
-use Rattle.drawer_text.specs.declared.Numeral.the-variants.{Number, NoNumber}
+use Rattle.text.specs.declared.Bytes.the-variants.{Unspaced}
+use Rattle.text.specs.declared.Numeral.{Numeral}
+use Rattle.text.specs.declared.Numeral.the-variants.{Number, NoNumber}
 use Rattle.drawer_text.specs.declared.Values.{Values}
 use Rattle.drawer_text.specs.declared.Values.the-variants.{Line, NoLine}
 use Rattle.drawer_text.specs.declared.Request.{Request}
 use Rattle.drawer_text.specs.declared.Request.the-variants.{Drawer, Refused}
-use Rattle.drawer_text.specs.Parts.{feed, run, spacedAt}
+use Rattle.text.specs.Parts.{feed, run, spacedAt}
+use Rattle.text.specs.Symbols.{symbolOf}
 
 -- `stations holes kind limit` and a line feed
 abbrev pub names : List ℕ
@@ -43,10 +44,6 @@ valuesAt s at = behind (spacedAt s at) (λ n p. behind (spacedAt s p) (λ d q. b
 
 -- ---- the whole input
 
--- "The characters 0 and 1 stand for the symbols, and any other byte counts as a wrong symbol."
-abbrev pub symbolOf : ℕ → ℕ
-symbolOf b = cond (eqb b 48) 0 (cond (eqb b 49) 1 2)
-
 -- what the program is asked: stations, holes, kind and the limit's symbols; or the line that refusal 10 names
 pub data Input : Type 0 where
   asked : ℕ → ℕ → ℕ → List ℕ → Input
@@ -74,6 +71,12 @@ limitWritten (faulty line) out = out
 
 -- ---- document 01's numbers: the refusal or 0, its place, stations, holes, kind, and the limit's length
 
+-- the numbers of each case of the answer: "any other number returned beside it is 0"
 abbrev pub requestNumbers : Request → ℕ × ℕ × ℕ × ℕ × ℕ × ℕ
 requestNumbers (Drawer n d kind size) = (0, 0, n, d, kind, size)
 requestNumbers (Refused r) = (numberOf r, placeOf r, 0, 0, 0, 0)
+
+-- the numbers that are due: what is asked, 9 where the limit does not fit, or 10 and the faulty line
+abbrev pub requestDue : Input → ℕ → ℕ × ℕ × ℕ × ℕ × ℕ × ℕ
+requestDue (asked n d kind limit) room = cond (leb (length limit) room) (0, 0, n, d, kind, length limit) (9, 0, 0, 0, 0, 0)
+requestDue (faulty line) room = (10, line, 0, 0, 0, 0)

@@ -1,4 +1,3 @@
--- The drawer program's text: its parts, its input, its lines.
-pub mod Parts
+-- The drawer program's text: its input, its lines.
 pub mod Input
 pub mod Lines

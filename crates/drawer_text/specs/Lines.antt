@@ -1,39 +1,14 @@
 -- The drawer program's printed lines: "single spaces", each ended by a line feed.
 use mathlib.Core.Bool.{cond}
-use mathlib.Core.List.{List, [], _∷_, _++_, map}
-use Prim.Native.Nat.{ℕ, zero, suc, _+_, _/_, _%_}
-use lib.Dec.{eqb, leb, ltb}
-use lib.ListN.{length, drop, take}
+use mathlib.Core.List.{List, [], _∷_, _++_}
+use Prim.Native.Nat.{ℕ}
+use lib.Dec.{leb}
+use lib.ListN.{length, drop}
 use Rattle.refusal.specs.declared.Refusal.{Refusal}
 use Rattle.refusal.specs.Refusals.{numberOf, placeOf}
-use Rattle.drawer_text.specs.Parts.{space, feed, zeroDigit}
-
--- ---- numbers
-
--- the decimal digits of n, by at most f divisions by 10
-unfoldable pub decimalBy : ℕ → ℕ → List ℕ
-decimalBy zero n = (zeroDigit + n) ∷ []
-decimalBy (suc f) n =
-    let tens = decimalBy f (n / 10) ++ ((zeroDigit + n % 10) ∷ []) in
-    cond (ltb n 10) ((zeroDigit + n) ∷ []) tens
-
--- the decimal digits of n: no leading zero, and 0 is one digit
-unfoldable pub decimal : ℕ → List ℕ
-decimal n = decimalBy n n
-
--- a number and the byte behind it
-unfoldable pub field : ℕ → ℕ → List ℕ
-field n end = decimal n ++ (end ∷ [])
-
--- ---- rows
-
--- "The characters 0 and 1 stand for the symbols."
-abbrev pub characterOf : ℕ → ℕ
-characterOf x = cond (eqb x 0) 48 49
-
--- a row and the space behind it
-unfoldable pub rowField : List ℕ → List ℕ
-rowField row = map characterOf row ++ (space ∷ [])
+use Rattle.text.specs.Parts.{space, feed}
+use Rattle.text.specs.Decimals.{field}
+use Rattle.text.specs.Symbols.{rowField}
 
 -- ---- lines
 
@@ -74,7 +49,3 @@ written text out = cond (leb (length text) (length out)) (fronted text out) out
 -- how many bytes are written
 abbrev pub countOf : List ℕ → ℕ → ℕ
 countOf text room = cond (leb (length text) room) (length text) 0
-
--- a piece at a place of a buffer
-abbrev pub placed : List ℕ → ℕ → List ℕ → List ℕ
-placed out at piece = (take at out ++ piece) ++ drop (at + length piece) out

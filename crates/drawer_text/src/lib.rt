@@ -1,24 +1,11 @@
 // The drawer program's text: its input read, its lines written.
-pub mod inner;
 pub mod parse;
 
 use refusal::Refusal;
 ghost use mathlib.Core.Path.{_≡_};
 ghost use lib.ListN.{length};
-ghost use Rattle.drawer_text.specs.Input.{readDrawer, requestOf, limitWritten};
+ghost use Rattle.drawer_text.specs.Input.{readDrawer, requestOf, requestNumbers, requestDue, limitWritten};
 ghost use Rattle.drawer_text.specs.Lines.{header, ringLine, endLine, refusalText, written, countOf};
-
-// A sort of bytes: the digits, or the bytes of a line that are no spaces.
-pub enum Bytes {
-    Digits,
-    Unspaced,
-}
-
-// A number that was read, and the place behind it.
-pub enum Numeral {
-    Number(usize, usize),
-    NoNumber,
-}
 
 // A line of values: stations, holes, kind, and where the limit starts and how long it is.
 pub enum Values {
@@ -34,12 +21,14 @@ pub enum Request {
 
 // Reads the drawer program's input. The limit's symbols are written to the front of a lent buffer.
 pub fn read_drawer(text: &[u8], limit: &mut [u8]) -> Request
-    ensures { λ r. ⌜ (r ≡ requestOf (readDrawer (now (text .entry))) (length (now (limit .entry)))) × (now (limit .exit) ≡ limitWritten (readDrawer (now (text .entry))) (now (limit .entry))) ⌝ }
+    ensures answer { λ r. ⌜ r ≡ requestOf (readDrawer (now (text .entry))) (length (now (limit .entry))) ⌝ }
+    ensures numbers { λ r. ⌜ requestNumbers r ≡ requestDue (readDrawer (now (text .entry))) (length (now (limit .entry))) ⌝ }
+    ensures buffer { λ _. ⌜ now (limit .exit) ≡ limitWritten (readDrawer (now (text .entry))) (now (limit .entry)) ⌝ }
 {
     if 256 < text.len() {
         return Request::Refused(Refusal::Text(1));
     }
-    if !parse::stands_at(text, 0, b"stations holes kind limit\n") {
+    if !text::read::stands_at(text, 0, b"stations holes kind limit\n") {
         return Request::Refused(Refusal::Text(1));
     }
     let Values::Line(stations, holes, kind, start, size) = parse::values_at(text, 26) else {
@@ -52,7 +41,7 @@ pub fn read_drawer(text: &[u8], limit: &mut [u8]) -> Request
     if limit.len() < size {
         return Request::Refused(Refusal::Buffer);
     }
-    inner::write_symbols(&text[start..end], limit);
+    text::write::write_symbols(&text[start..end], limit);
     Request::Drawer(stations, holes, kind, size)
 }
 
@@ -63,7 +52,7 @@ pub fn write_header(out: &mut [u8]) -> usize
     if out.len() < 25 {
         return 0;
     }
-    inner::put(out, 0, b"number row period trials\n")
+    text::write::put(out, 0, b"number row period trials\n")
 }
 
 // A ring's line to the front of a buffer; how many bytes were written.
@@ -73,39 +62,39 @@ pub fn write_ring(number: u64, row: &[u8], period: u64, trials: u64, out: &mut [
     if out.len() < row.len() {
         return 0;
     }
-    let digits = inner::decimal_length(number)
-        + inner::decimal_length(period)
-        + inner::decimal_length(trials);
+    let digits = text::write::decimal_length(number)
+        + text::write::decimal_length(period)
+        + text::write::decimal_length(trials);
     if out.len() - row.len() < digits + 4 {
         return 0;
     }
-    let a = inner::put_field(out, 0, number, b' ');
-    let b = inner::put_row(out, a, row);
-    let c = inner::put_field(out, b, period, b' ');
-    inner::put_field(out, c, trials, b'\n')
+    let a = text::write::put_field(out, 0, number, b' ');
+    let b = text::write::put_row(out, a, row);
+    let c = text::write::put_field(out, b, period, b' ');
+    text::write::put_field(out, c, trials, b'\n')
 }
 
 // The last line to the front of a buffer; how many bytes were written.
 pub fn write_end(trials: u64, out: &mut [u8]) -> usize
     ensures { λ r. ⌜ (r ≡ countOf (endLine trials) (length (now (out .entry)))) × (now (out .exit) ≡ written (endLine trials) (now (out .entry))) ⌝ }
 {
-    if out.len() < inner::decimal_length(trials) + 9 {
+    if out.len() < text::write::decimal_length(trials) + 9 {
         return 0;
     }
-    let a = inner::put(out, 0, b"end - - ");
-    inner::put_field(out, a, trials, b'\n')
+    let a = text::write::put(out, 0, b"end - - ");
+    text::write::put_field(out, a, trials, b'\n')
 }
 
 // The text of a refusal to the front of a buffer; how many bytes were written.
 pub fn write_refusal(r: Refusal, out: &mut [u8]) -> usize
     ensures { λ n. ⌜ (n ≡ countOf (refusalText r) (length (now (out .entry)))) × (now (out .exit) ≡ written (refusalText r) (now (out .entry))) ⌝ }
 {
-    let number = inner::wide(refusal::number(r));
+    let number = text::write::wide(refusal::number(r));
     let place = refusal::place(r) as u64;
-    if out.len() < inner::decimal_length(number) + inner::decimal_length(place) + 16 {
+    if out.len() < text::write::decimal_length(number) + text::write::decimal_length(place) + 16 {
         return 0;
     }
-    let a = inner::put(out, 0, b"refused place\n");
-    let b = inner::put_field(out, a, number, b' ');
-    inner::put_field(out, b, place, b'\n')
+    let a = text::write::put(out, 0, b"refused place\n");
+    let b = text::write::put_field(out, a, number, b' ');
+    text::write::put_field(out, b, place, b'\n')
 }

@@ -9,7 +9,8 @@ use borrow.Author.Needs.{needs}
 use borrow.Author.Tests.{le-leb, lt-leb, not-false, not-true}
 use Rattle.drawer_text.proofs.Inputs.{all-read, from-input, limit-length, limit-put, misnamed, no-values, over-long, too-many}
 use Rattle.drawer_text.proofs.ValueLines.{line-inside}
-use Rattle.drawer_text.specs.Input.{asked, mostBytes, names, readDrawer, symbolOf, valuesAt}
+use Rattle.text.specs.Symbols.{symbolOf}
+use Rattle.drawer_text.specs.Input.{asked, mostBytes, names, readDrawer, valuesAt}
 use Rattle.drawer_text.specs.declared.Values.the-variants.{Line}
 use Rattle.words.specs.Tests.{isPrefix}
 use Rattle.drawer_text.proofs.read_drawer.Statement.{statement}

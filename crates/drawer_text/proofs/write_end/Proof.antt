@@ -4,9 +4,11 @@ use Prim.Native.Nat.{_+_, _≤_}
 use native.Mathlib.Omega.{arith}
 use lib.ListN.{length}
 use borrow.Author.Needs.{needs}
-use Rattle.drawer_text.proofs.Filling.{Filled, end-length, field-length, filled-all, filled-more, filled-none, too-short}
-use Rattle.drawer_text.specs.Lines.{endLine, endMark, field}
-use Rattle.drawer_text.specs.Parts.{feed}
+use Rattle.drawer_text.proofs.Filling.{Filled, end-length, filled-all, filled-more, filled-none, too-short}
+use Rattle.text.proofs.Digits.{field-length}
+use Rattle.text.specs.Decimals.{field}
+use Rattle.drawer_text.specs.Lines.{endLine, endMark}
+use Rattle.text.specs.Parts.{feed}
 use Rattle.drawer_text.proofs.write_end.Statement.{statement}
 use Rattle.drawer_text.proofs.write_end.Tie as tie
 

@@ -6,8 +6,9 @@ use native.Mathlib.Omega.{arith}
 use lib.ListN.{length, length-append}
 use borrow.Author.Needs.{needs}
 use Rattle.drawer_text.proofs.Filling.{Filled, filled-all, filled-more, filled-none, refusal-length, too-short}
-use Rattle.drawer_text.specs.Lines.{decimal, field, refusalText, refusedNames}
-use Rattle.drawer_text.specs.Parts.{feed, space}
+use Rattle.text.specs.Decimals.{decimal, field}
+use Rattle.drawer_text.specs.Lines.{refusalText, refusedNames}
+use Rattle.text.specs.Parts.{feed, space}
 use Rattle.refusal.specs.Refusals.{numberOf, placeOf}
 use Rattle.refusal.specs.declared.Refusal.{Refusal}
 use Rattle.drawer_text.proofs.write_refusal.Statement.{statement}

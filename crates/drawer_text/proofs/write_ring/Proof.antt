@@ -6,8 +6,10 @@ use native.Mathlib.Omega.{arith}
 use lib.ListN.{length, length-append}
 use borrow.Author.Needs.{needs}
 use Rattle.drawer_text.proofs.Filling.{Filled, filled-all, filled-more, filled-none, ring-length, too-short}
-use Rattle.drawer_text.specs.Lines.{field, ringLine, rowField}
-use Rattle.drawer_text.specs.Parts.{feed, space}
+use Rattle.text.specs.Decimals.{field}
+use Rattle.text.specs.Symbols.{rowField}
+use Rattle.drawer_text.specs.Lines.{ringLine}
+use Rattle.text.specs.Parts.{feed, space}
 use Rattle.drawer_text.proofs.write_ring.Statement.{statement}
 use Rattle.drawer_text.proofs.write_ring.Tie as tie
 

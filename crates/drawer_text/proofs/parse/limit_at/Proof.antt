@@ -3,9 +3,9 @@ use mathlib.Core.Path.{sym, _∙_}
 use native.Mathlib.Omega.{arith}
 use borrow.Author.Needs.{needs}
 use borrow.Author.Tests.{not-false, not-true}
-use Rattle.drawer_text.proofs.Runs.{run-inside}
+use Rattle.text.proofs.Runs.{run-inside}
 use Rattle.drawer_text.proofs.ValueLines.{ended, no-end, no-limit}
-use Rattle.drawer_text.specs.declared.Bytes.the-variants.{Unspaced}
+use Rattle.text.specs.declared.Bytes.the-variants.{Unspaced}
 use Rattle.drawer_text.proofs.parse.limit_at.Statement.{statement}
 use Rattle.drawer_text.proofs.parse.limit_at.Tie as tie
 

@@ -1,0 +1,10 @@
+-- runs of bytes, and words at a place
+pub mod Runs
+-- numbers of one to three digits, and a space behind them
+pub mod Numerals
+-- what is written into a buffer
+pub mod Written
+-- the digits of a number
+pub mod Digits
+-- what is written is read back
+pub mod ReadBack

@@ -1,0 +1,109 @@
+// Writing pieces of text into a lent buffer that has room for them.
+ghost use mathlib.Core.Path.{_≡_};
+ghost use mathlib.Core.List.{_++_, map};
+ghost use Prim.Native.Nat.{_+_, _≤_};
+ghost use lib.ListN.{length, drop};
+ghost use Rattle.text.specs.Decimals.{decimal, field};
+ghost use Rattle.text.specs.Symbols.{symbolOf, characterOf, rowField};
+ghost use Rattle.text.specs.Buffers.{placed};
+
+// The symbol that a byte of a limit stands for.
+pub fn symbol(byte: u8) -> u8
+    ensures { λ r. ⌜ r ≡ symbolOf byte ⌝ }
+{
+    if byte == 48 {
+        return 0;
+    }
+    if byte == 49 {
+        return 1;
+    }
+    2
+}
+
+// The symbols of a limit to the front of a buffer.
+pub fn write_symbols(bytes: &[u8], out: &mut [u8])
+    requires { ⌜ length (now bytes) ≤ length (now out) ⌝ }
+    ensures { λ r. ⌜ now (out .exit) ≡ map symbolOf (now (bytes .entry)) ++ drop (length (now (bytes .entry))) (now (out .entry)) ⌝ }
+{
+    let mut i: usize = 0;
+    while i < bytes.len() {
+        out[i] = symbol(bytes[i]);
+        i += 1;
+    }
+}
+
+// The character of a symbol.
+pub fn character(symbol: u8) -> u8
+    ensures { λ r. ⌜ r ≡ characterOf symbol ⌝ }
+{
+    if symbol == 0 {
+        return 48;
+    }
+    49
+}
+
+// How many decimal digits a number has.
+pub fn decimal_length(n: u64) -> usize
+    ensures { λ r. ⌜ (r ≡ length (decimal n)) × (r ≤ 20) ⌝ }
+{
+    let mut count: usize = 1;
+    let mut rest = n;
+    while 10 <= rest {
+        rest = rest / 10;
+        count += 1;
+    }
+    count
+}
+
+// A piece at a place of a buffer; the place behind it.
+pub fn put(out: &mut [u8], at: usize, piece: &[u8]) -> usize
+    requires { ⌜ at + length (now piece) ≤ length (now out) ⌝ }
+    ensures { λ r. ⌜ (r ≡ at + length (now (piece .entry))) × (now (out .exit) ≡ placed (now (out .entry)) at (now (piece .entry))) ⌝ }
+{
+    let mut i: usize = 0;
+    while i < piece.len() {
+        out[at + i] = piece[i];
+        i += 1;
+    }
+    at + piece.len()
+}
+
+// A number and the byte behind it at a place of a buffer; the place behind them.
+pub fn put_field(out: &mut [u8], at: usize, n: u64, end: u8) -> usize
+    requires { ⌜ at + length (field n end) ≤ length (now out) ⌝ }
+    ensures { λ r. ⌜ (r ≡ at + length (field n end)) × (now (out .exit) ≡ placed (now (out .entry)) at (field n end)) ⌝ }
+{
+    let mut text = [end; 21];
+    let mut from: usize = 20;
+    let mut rest = n;
+    while 10 <= rest {
+        from -= 1;
+        text[from] = 48 + (rest % 10) as u8;
+        rest = rest / 10;
+    }
+    from -= 1;
+    text[from] = 48 + rest as u8;
+    put(out, at, &text[from..])
+}
+
+// A row and the space behind it at a place of a buffer; the place behind them.
+pub fn put_row(out: &mut [u8], at: usize, row: &[u8]) -> usize
+    requires { ⌜ at + length (rowField (now row)) ≤ length (now out) ⌝ }
+    ensures { λ r. ⌜ (r ≡ at + length (rowField (now (row .entry)))) × (now (out .exit) ≡ placed (now (out .entry)) at (rowField (now (row .entry)))) ⌝ }
+{
+    let mut i: usize = 0;
+    while i < row.len() {
+        out[at + i] = character(row[i]);
+        i += 1;
+    }
+    let end = at + row.len();
+    out[end] = 32;
+    end + 1
+}
+
+// A byte as a number of more bits.
+pub fn wide(x: u8) -> u64
+    ensures { λ r. ⌜ r ≡ x ⌝ }
+{
+    x as u64
+}
