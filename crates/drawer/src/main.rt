@@ -4,21 +4,41 @@ use refusal::Refusal;
 use walk::Answer;
 use walk::OpenAnswer;
 use walk::Walk;
+ghost use mathlib.Core.Path.{_≡_};
+ghost use mathlib.Core.Bool.{true};
+ghost use Prim.Native.Nat.{_+_, _≤_};
+ghost use lib.ListN.{length};
+ghost use Rattle.text.specs.Buffers.{placed};
+ghost use Rattle.walk.specs.Moves.{rules};
+ghost use Rattle.walk.specs.Fit.{fit};
+ghost use Rattle.drawer.specs.Printed.{lineOf};
 
 // All that can be allowed: more than the trials of any ring.
 const ALLOWANCE: u64 = 18446744073709551615;
 
-// A buffer of 4096 bytes has room for another line up to here.
-const FULL: usize = 3800;
+// A buffer of 4096 bytes has room for another line up to here: a line has at most 128.
+const FULL: usize = 3968;
 
 // More rings than can be counted here.
 const MOST_RINGS: u64 = 18446744073709551615;
 
 // Writes the front of a buffer.
-fn print_front(out: &[u8], used: usize) {
-    if used <= out.len() {
-        io::write_all(1, &out[..used]);
+fn print_front(out: &[u8], used: usize)
+    requires { ⌜ used ≤ length (now out) ⌝ }
+{
+    io::write_all(1, &out[..used]);
+}
+
+// Writes the front of a buffer where little room is left; how much is used then.
+fn make_room(out: &[u8], used: usize) -> usize
+    requires { ⌜ used ≤ length (now out) ⌝ }
+    ensures { λ r. ⌜ r ≤ 3968 ⌝ }
+{
+    if FULL < used {
+        print_front(out, used);
+        return 0;
     }
+    used
 }
 
 fn print_refusal(r: Refusal) {
@@ -36,37 +56,26 @@ fn kind_byte(kind: usize) -> u8 {
 }
 
 // Puts the line of the ring that a walk gave behind what is used of a buffer; how much is used then.
-fn add_ring(walk: Walk, number: u64, trials: u64, used: usize, out: &mut [u8]) -> usize {
+fn add_ring(walk: Walk, number: u64, trials: u64, used: usize, out: &mut [u8]) -> usize
+    requires { ⌜ (1 ≤ walk .n) × (walk .n ≤ 64) × (used + 128 ≤ length (now out)) ⌝ }
+    ensures { λ r. ⌜ (r ≡ used + length (lineOf walk number trials)) × (r ≤ used + 128) × (now (out .exit) ≡ placed (now (out .entry)) used (lineOf walk number trials)) ⌝ }
+{
     let n = walk.n;
     let row = walk.row;
-    if n == 0 {
-        return used;
-    }
-    if 64 < n {
-        return used;
-    }
-    if out.len() < used {
-        return used;
-    }
-    let room = out.len() - used;
     let period = necklace::inner::necklace_period(&row[..n]);
     let size = drawer_text::write_ring(number, &row[..n], period as u64, trials, &mut out[used..]);
-    if room < size {
-        return used;
-    }
     used + size
 }
 
 // Prints the rest of a walk. Lines are gathered, and written when little room is left.
-fn print_rings(mut walk: Walk) {
+fn print_rings(mut walk: Walk)
+    requires { ⌜ fit rules walk ≡ true ⌝ }
+{
     let mut out = io::buffer();
     let mut used = drawer_text::write_header(&mut out);
     let mut number: u64 = 0;
     while number < MOST_RINGS {
-        if FULL < used {
-            print_front(&out, used);
-            used = 0;
-        }
+        used = make_room(&out, used);
         let stepped = walk.step(ALLOWANCE);
         walk = stepped.walk;
         let trials = stepped.trials;
@@ -93,10 +102,9 @@ fn print_rings(mut walk: Walk) {
 }
 
 // The drawer at or below a limit of some symbols at the front of a buffer.
-fn print_drawer(n: usize, d: usize, kind: usize, size: usize, symbols: &[u8]) {
-    if symbols.len() < size {
-        return;
-    }
+fn print_drawer(n: usize, d: usize, kind: usize, size: usize, symbols: &[u8])
+    requires { ⌜ size ≤ length (now symbols) ⌝ }
+{
     let opened = Walk::open(n, d, kind_byte(kind), &symbols[..size]);
     let answer = opened.answer;
     match answer {

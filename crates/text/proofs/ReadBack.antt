@@ -6,9 +6,8 @@ use Prim.Native.Nat.{suc, zero, ℕ, _%_, _*_, _+_, _-_, _/_, _<_, _≤_}
 use native.Mathlib.Nat.{div-add-mod'}
 use native.Mathlib.Omega.{arith}
 use Rattle.text.proofs.Digits.{decimal-more, decimal-one}
-use Rattle.text.specs.Symbols.{symbolOf}
+use Rattle.text.specs.Symbols.{characterOf, symbolOf}
 use Rattle.text.specs.Decimals.{decimal}
-use Rattle.text.specs.Symbols.{characterOf}
 use Rattle.text.specs.Parts.{valueFrom, zeroDigit}
 use Rattle.words.proofs.Below.{le-or}
 use Rattle.words.proofs.Induction.{strong}

@@ -14,7 +14,7 @@ use Rattle.density.proofs.Members.{Member}
 use Rattle.density.specs.Necklaces.{begins, isNecklaceOf, ofKind}
 use Rattle.prefix.proofs.Begun.{begins-member}
 use Rattle.prefix.specs.Search.{Symbols}
-use Rattle.refusal.specs.declared.Refusal.the-variants.{Spent, Unfit}
+use Rattle.refusal.specs.declared.Refusal.the-variants.{Ended as HasEnded, Spent, Unfit}
 use Rattle.walk.proofs.Enough.{enough-some}
 use Rattle.walk.proofs.FitSteps.{clean-binary}
 use Rattle.walk.proofs.Good.{Fit, Good, GoodAt, Sound, fit-at, fit-sound}
@@ -34,7 +34,6 @@ use Rattle.walk.specs.declared.Standing.{Standing}
 use Rattle.walk.specs.declared.Standing.the-variants.{Down, Ended, Given, Limit, Up}
 use Rattle.walk.specs.declared.Walk.{Walk}
 use Rattle.words.specs.Symbols.{zeros}
-use Rattle.refusal.specs.declared.Refusal.the-variants.{Ended as HasEnded}
 
 -- from `first` the loop has come to this row and standing, with so many trials left
 pub record Going (allowance : ℕ) (first : Walk) (n d kind : ℕ) (row : List ℕ) (at : Standing) (left : ℕ) : Type 0 where

@@ -8,13 +8,12 @@ use borrow.Author.Tests.{eq-eqb, le-leb, lt-leb, ne-eqb}
 use Rattle.density.specs.Necklaces.{isKind}
 use Rattle.refusal.specs.Verdicts.{Verdict, accepted, areStations, verdictNumbers}
 use Rattle.refusal.specs.declared.Refusal.{Refusal}
-use Rattle.refusal.specs.declared.Refusal.the-variants.{Holes, Kind, Stations, Symbol}
+use Rattle.refusal.specs.declared.Refusal.the-variants.{Holes, Kind, Limit as LimitLength, Stations, Symbol}
 use Rattle.walk.specs.Listing.{refused}
 use Rattle.walk.specs.Moves.{answer, rules}
 use Rattle.walk.specs.Opening.{openAnswer, openNumbers, openVerdict}
 use Rattle.walk.specs.declared.Opened.{Opened}
 use Rattle.words.specs.Symbols.{firstWrong}
-use Rattle.refusal.specs.declared.Refusal.the-variants.{Limit as LimitLength}
 
 module _ (n d kind : ℕ) (limit : List ℕ) where
   -- what opening answers

@@ -1,61 +1,74 @@
--- `drawer::add_ring` is safe and ends.
-use mathlib.Core.Path.{sym, _≡_}
+-- `drawer::add_ring` meets its contract: the line has at most 128 bytes, so there is room for it.
+use mathlib.Core.List.{List}
+use mathlib.Core.Path.{ap, sym, _≡_}
+use Prim.Native.Nat.{ℕ, _+_, _<_, _≤_}
 use native.Mathlib.Omega.{arith}
 use lib.ListN.{length, length-map}
 use lib.Seq.{length-take-le}
 use borrow.Author.Needs.{needs}
+use Rattle.drawer.proofs.Adding.{added, added-count, line-short}
+use Rattle.drawer.specs.Printed.{lineOf}
+use Rattle.necklace.specs.Class.{necklacePeriod}
+use Rattle.walk.specs.Moves.{rowOf}
 use Rattle.drawer.proofs.add_ring.Statement.{statement}
 use Rattle.drawer.proofs.add_ring.Tie as tie
 
-array-share-prefix-row : tie.Need-array-share-prefix-row
-array-share-prefix-row c =
-    let s = c .before .before .before .before .before in
-    let l : length (s .args .walk .row) ≡ 64 = rw length-map at (s .good .0 .1 .1 .1 .1 .1 .0 .1 .0 .1) in
-    omega (arith, l, c .before .if2 .left)
+-- the ring has n symbols
+module _ (c : tie.Start) where
+  row-64 : length (c .args .walk .row) ≡ 64
+  row-64 = rw length-map at (c .good .0 .1 .1 .1 .1 .1 .0 .1 .0 .1)
 
-slice-aggregate-necklace-period : tie.Need-slice-aggregate-necklace-period
-slice-aggregate-necklace-period c =
-    let s = c .before .before .before .before .before .before in
-    let l : length (s .args .walk .row) ≡ 64 = rw length-map at (s .good .0 .1 .1 .1 .1 .1 .0 .1 .0 .1) in
-    sym (length-take-le _ _ (omega (arith, l, c .before .before .if2 .left)))
+  ring-n : length (rowOf (c .args .walk)) ≡ c .args .walk .n
+  ring-n = length-take-le _ _ (omega (arith, row-64, c .pre .1))
 
-necklace-period-requires : tie.Need-necklace-period-requires
-necklace-period-requires c κs =
-    let s = c .before .before .before .before .before .before in
-    let l : length (s .args .walk .row) ≡ 64 = rw length-map at (s .good .0 .1 .1 .1 .1 .1 .0 .1 .0 .1) in
-    omega (arith, length-take-le (s .args .walk .n) (s .args .walk .row) (omega (arith, l, c .before .before .if2 .left)), c .before .before .before .if1 .left)
+-- the line that is due, and that it fits
+abbrev due : tie.Start → List ℕ
+due c = lineOf (c .args .walk) (c .args .number) (c .args .trials)
 
-array-share-prefix-row-2 : tie.Need-array-share-prefix-row-2
-array-share-prefix-row-2 c =
-    let s = c .before .before .before .before .before .before .before in
-    let l : length (s .args .walk .row) ≡ 64 = rw length-map at (s .good .0 .1 .1 .1 .1 .1 .0 .1 .0 .1) in
-    omega (arith, l, c .before .before .before .if2 .left)
+due-short : (c : tie.After-necklace-period) → length (due (c .before .before .before .before)) ≤ 128
+due-short c =
+    let s = c .before .before .before .before in
+    let w = s .args .walk in
+    let p : c .necklace-period .result < 18446744073709551616 = search needs in
+    line-short (s .args .number) (rowOf w) (necklacePeriod (rowOf w)) (s .args .trials) (omega (arith, ring-n s, s .pre .1)) (omega arith) (rw (c .necklace-period .ensures) at p) (omega arith)
 
-slice-aggregate-write-ring : tie.Need-slice-aggregate-write-ring
-slice-aggregate-write-ring c =
-    let s = c .before .before .before .before .before .before .before .before in
-    let l : length (s .args .walk .row) ≡ 64 = rw length-map at (s .good .0 .1 .1 .1 .1 .1 .0 .1 .0 .1) in
-    sym (length-take-le _ _ (omega (arith, l, c .before .before .before .before .if2 .left)))
+due-fits : (c : tie.After-necklace-period) → let s = c .before .before .before .before in s .args .used + length (due s) ≤ length (s .args .out .now)
+due-fits c = omega (arith, due-short c, c .before .before .before .before .pre .2)
+
+-- what was written
+module _ (c : tie.After-write-ring) where
+  told : let s = c .before .before .before .before .before .before .before in (c .write-ring .result ≡ length (due s))
+  told =
+      let s = c .before .before .before .before .before .before .before in
+      let e = rw (c .before .before .before .necklace-period .ensures) at (c .write-ring .ensures) in
+      added-count (s .args .used) (s .args .out .now) (due s) (due-fits (c .before .before .before)) _ (e .0)
+
+add-result : tie.Need-add-result
+add-result c =
+    let e = told (c .before .before) in
+    let f = due-fits (c .before .before .before .before .before) in
+    search needs
+
+returns : tie.Need-returns
+returns c =
+    let s = c .before .before .before .before .before .before .before .before .before in
+    let e = rw (c .before .before .before .before .before .necklace-period .ensures) at (c .before .before .write-ring .ensures) in
+    let size = told (c .before .before) in
+    (ap (λ k. s .args .used + k) size, omega (arith, size, due-short (c .before .before .before .before .before)), added (s .args .used) (s .args .out .now) (due s) (due-fits (c .before .before .before .before .before)) _ (e .1))
 
 pub add-ring-spec : {M : Type 1} → statement M
 add-ring-spec =
     tie.close
     (tie.spec
-    (λ c. search needs)
-    (λ c. search needs)
-    (λ c. search needs)
-    (λ c. search needs)
-    array-share-prefix-row
-    slice-aggregate-necklace-period
-    necklace-period-requires
-    array-share-prefix-row-2
-    slice-aggregate-write-ring
+    (λ c. omega (arith, row-64 (c .before .before), c .before .before .pre .1))
+    (λ c. sym (ring-n (c .before .before .before)))
+    (λ c κs. omega (arith, ring-n (c .before .before .before), c .before .before .before .pre .0))
+    (λ c. omega (arith, row-64 (c .before .before .before .before), c .before .before .before .before .pre .1))
+    (λ c. sym (ring-n (c .before .before .before .before .before)))
     (λ c. search needs)
     (λ c. search needs)
     (λ c. search needs)
     (λ c κs. search needs)
+    add-result
     (λ c. search needs)
-    (λ c. search needs)
-    (λ c. search needs)
-    (λ c. search needs)
-    (λ c. search needs))
+    returns)

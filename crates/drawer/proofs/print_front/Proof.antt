@@ -6,8 +6,7 @@ use Rattle.drawer.proofs.print_front.Statement.{statement}
 use Rattle.drawer.proofs.print_front.Tie as tie
 
 slice-aggregate-write-all : tie.Need-slice-aggregate-write-all
-slice-aggregate-write-all c = sym (length-take-le _ _ (c .before .if1 .taken))
+slice-aggregate-write-all c = sym (length-take-le _ _ (c .before .before .pre))
 
 pub print-front-spec : {M : Type 1} → statement M
-print-front-spec =
-    tie.close (tie.spec slice-aggregate-write-all (λ c κs. search needs) (λ c. search needs) (λ c. search needs))
+print-front-spec = tie.close (tie.spec slice-aggregate-write-all (λ c κs. search needs) (λ c. search needs))

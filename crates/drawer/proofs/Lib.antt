@@ -1,0 +1,4 @@
+-- a line behind what is used of a buffer
+pub mod Adding
+-- what is read fits, and an opened walk is fit
+pub mod Opened

@@ -1,0 +1,42 @@
+-- What is read fits where it was put, and a walk that was opened is fit.
+use mathlib.Core.Bool.{Bool, false, true}
+use mathlib.Core.List.{List}
+use mathlib.Core.Path.{refl, _≡_}
+use Prim.Native.Nat.{ℕ, _≤_}
+use native.Mathlib.Omega.{arith}
+use lib.Dec.{leb}
+use lib.ListN.{length}
+use borrow.Author.Tests.{leb-true}
+use Rattle.drawer_text.specs.Input.{Input, asked, faulty, requestOf}
+use Rattle.drawer_text.specs.declared.Request.{Request}
+use Rattle.drawer_text.specs.declared.Request.the-variants.{Drawer, Refused}
+use Rattle.refusal.specs.Verdicts.{Verdict, accepted, refused}
+use Rattle.walk.proofs.Demand.{accepted-opening, fresh-fit}
+use Rattle.walk.specs.Fit.{fit}
+use Rattle.walk.specs.Moves.{rules}
+use Rattle.walk.specs.Opening.{openAnswer, openVerdict}
+use Rattle.walk.specs.declared.OpenAnswer.the-variants.{NotOpen, Open}
+use Rattle.walk.specs.declared.Opened.{Opened}
+
+pub open-fit : (n d kind : ℕ) (limit : List ℕ) (o : Opened) → o ≡ openAnswer (openVerdict n d kind limit) rules n d kind limit → o .answer ≡ Open → fit rules (o .walk) ≡ true
+open-fit n d kind limit o e a = go (openVerdict n d kind limit) refl
+  where
+    go : (v : Verdict) → openVerdict n d kind limit ≡ v → fit rules (o .walk) ≡ true
+    go accepted f = rw (e, f) (fresh-fit rules n d kind limit (accepted-opening n d kind limit f) .test)
+    go (refused r) f =
+        let b : NotOpen r ≡ Open = rw (e, f) at a in
+        let z : _≡_ {A = ℕ} 0 1 = cc in
+        absurd (omega arith)
+
+-- a limit that was read is no longer than the buffer that it was put into
+abbrev pub Room : Request → ℕ → Type 0
+Room (Drawer n d kind size) room = size ≤ room
+Room (Refused r) room = 0 ≤ room
+
+pub limit-fits : (r : Request) (i : Input) (room : ℕ) → r ≡ requestOf i room → Room r room
+limit-fits r (asked n d kind limit) room e = go (leb (length limit) room) refl
+  where
+    go : (b : Bool) → leb (length limit) room ≡ b → Room r room
+    go true f = rw (e, f) (leb-true (length limit) room f)
+    go false f = rw (e, f) (omega arith)
+limit-fits r (faulty line) room e = rw e (omega arith)

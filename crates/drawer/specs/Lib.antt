@@ -1,0 +1,2 @@
+-- The lines of the drawer program.
+pub mod Printed
