@@ -3,12 +3,11 @@ use gaps::ListAnswer;
 use gaps::RowAnswer;
 use necklace::ClassAnswer;
 use necklace::KeyAnswer;
+use plain_rows::FRESH;
 ghost use Prim.Native.Nat.{_<_, _≤_};
 ghost use lib.ListN.{length};
 
-// What a buffer holds before it is lent: no symbol, and no gap of a row.
-const FRESH: u8 = 7;
-
+// What a buffer of gaps holds before it is lent: no gap of a row.
 const FRESH_GAP: usize = 99;
 
 // ---- printing
@@ -23,26 +22,6 @@ fn print_gaps(count: usize, list: &[usize]) {
     }
 }
 
-fn print_said(name: &[u8], said: bool) {
-    io::write_all(1, name);
-    if said {
-        io::write_all(1, b" yes");
-    } else {
-        io::write_all(1, b" no");
-    }
-}
-
-// How many bytes of the buffer are as they were.
-fn count_fresh(buffer: &[u8; 80]) -> usize {
-    let mut fresh: usize = 0;
-    let mut i: usize = 0;
-    while i < 80 {
-        fresh += plain_rows::one_if(buffer[i] == FRESH);
-        i += 1;
-    }
-    fresh
-}
-
 // How many numbers of the buffer are as they were.
 fn count_fresh_gaps(buffer: &[usize; 80]) -> usize {
     let mut fresh: usize = 0;
@@ -52,11 +31,6 @@ fn count_fresh_gaps(buffer: &[usize; 80]) -> usize {
         i += 1;
     }
     fresh
-}
-
-fn print_as_before(fresh: usize) {
-    plain_rows::print_named(b" as before ", fresh);
-    io::write_all(1, b"\n");
 }
 
 // ---- the operations on a row that is written as digits
@@ -77,6 +51,7 @@ fn print_key(answer: KeyAnswer, n: usize, out: &[u8; 80]) {
         }
         KeyAnswer::Refused(r) => plain_rows::print_refusal(r),
     }
+    plain_rows::print_as_before(plain_rows::count_fresh(out));
 }
 
 // The key of a row, with a buffer of 80 bytes, of which room are lent.
@@ -92,14 +67,15 @@ fn show_key(digits: &[u8], room: usize)
     plain_rows::print_named(b" buffer ", room);
     io::write_all(1, b": ");
     print_key(answer, n, &out);
-    print_as_before(count_fresh(&out));
 }
 
 fn print_class(answer: ClassAnswer) {
     match answer {
         ClassAnswer::Of { necklace, lyndon } => {
-            print_said(b"shelved", necklace);
-            print_said(b" without symmetry", lyndon);
+            io::write_all(1, b"shelved ");
+            plain_rows::print_truth(necklace);
+            io::write_all(1, b" without symmetry ");
+            plain_rows::print_truth(lyndon);
         }
         ClassAnswer::Refused(r) => plain_rows::print_refusal(r),
     }
@@ -126,6 +102,7 @@ fn print_list(answer: ListAnswer, out: &[usize; 80]) {
         }
         ListAnswer::NoList(r) => plain_rows::print_refusal(r),
     }
+    plain_rows::print_as_before(count_fresh_gaps(out));
 }
 
 // The gap list of a row, with a buffer of 80 numbers, of which room are lent.
@@ -141,7 +118,6 @@ fn show_list(digits: &[u8], room: usize)
     plain_rows::print_named(b" buffer ", room);
     io::write_all(1, b": ");
     print_list(answer, &out);
-    print_as_before(count_fresh_gaps(&out));
 }
 
 fn print_written(answer: RowAnswer, n: usize, out: &[u8; 80]) {
@@ -149,6 +125,7 @@ fn print_written(answer: RowAnswer, n: usize, out: &[u8; 80]) {
         RowAnswer::Written => plain_rows::print_row(n, out),
         RowAnswer::NoRow(r) => plain_rows::print_refusal(r),
     }
+    plain_rows::print_as_before(plain_rows::count_fresh(out));
 }
 
 // The row of a gap list, with a buffer of 80 bytes, of which room are lent.
@@ -164,7 +141,6 @@ fn show_row(n: usize, list: &[usize], room: usize)
     plain_rows::print_named(b" buffer ", room);
     io::write_all(1, b": ");
     print_written(answer, n, &out);
-    print_as_before(count_fresh(&out));
 }
 
 // ---- all rows of up to 10 stations
@@ -378,9 +354,7 @@ fn compare_all(what: Compared) {
         agreed += counts.agreed;
         n += 1;
     }
-    plain_rows::print_named(b" compared ", compared);
-    plain_rows::print_named(b" agreed ", agreed);
-    io::write_all(1, b"\n");
+    plain_rows::print_counts(compared, agreed);
 }
 
 // ---- what is shown
@@ -475,12 +449,12 @@ fn main() {
     show_classes();
     show_rows();
     show_lists();
-    io::write_all(1, b"key");
+    io::write_all(1, b"key ");
     compare_all(Compared::Key);
-    io::write_all(1, b"class");
+    io::write_all(1, b"class ");
     compare_all(Compared::Class);
-    io::write_all(1, b"gap list and back");
+    io::write_all(1, b"gap list and back ");
     compare_all(Compared::RoundTrip);
-    io::write_all(1, b"no gap list, refused 8");
+    io::write_all(1, b"no gap list, refused 8 ");
     compare_all(Compared::NoList);
 }

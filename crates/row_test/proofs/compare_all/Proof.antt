@@ -5,10 +5,10 @@ use Rattle.row_test.proofs.compare_all.Statement.{statement}
 use Rattle.row_test.proofs.compare_all.Tie as tie
 
 abbrev Inv-loop : tie.InvT-loop
-Inv-loop what compared₀ agreed₀ n₀ t6 t7 t8 compared agreed n = (1 ≤ n) × (n ≤ 11) × (compared ≤ 1024 * n) × (agreed ≤ 1024 * n)
+Inv-loop what compared₀ agreed₀ n₀ compared agreed n = (1 ≤ n) × (n ≤ 11) × (compared ≤ 1024 * n) × (agreed ≤ 1024 * n)
 
 abbrev μ-loop : tie.MeasureT-loop
-μ-loop what compared₀ agreed₀ n₀ t6 t7 t8 compared agreed n = 11 - n
+μ-loop what compared₀ agreed₀ n₀ compared agreed n = 11 - n
 
 pub compare-all-spec : {M : Type 1} → statement M
 compare-all-spec =
@@ -22,11 +22,6 @@ compare-all-spec =
     (λ c. search needs)
     (λ c. search needs)
     (λ c. search needs)
-    (λ c. search needs)
-    (λ c. search needs)
-    (λ c κs. search needs)
-    (λ c. search needs)
-    (λ c κs. search needs)
     (λ c. search needs)
     (λ c κs. search needs)
     (λ c. search needs))

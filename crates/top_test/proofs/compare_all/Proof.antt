@@ -11,10 +11,10 @@ record Inv (compared agreed n : ℕ) : Type 0 where
   fewer : agreed ≤ 66 * n
 
 abbrev Inv-loop : tie.InvT-loop
-Inv-loop compared₀ agreed₀ n₀ t4 t5 t6 compared agreed n = Inv compared agreed n
+Inv-loop compared₀ agreed₀ n₀ compared agreed n = Inv compared agreed n
 
 abbrev μ-loop : tie.MeasureT-loop
-μ-loop compared₀ agreed₀ n₀ t4 t5 t6 compared agreed n = 65 - n
+μ-loop compared₀ agreed₀ n₀ compared agreed n = 65 - n
 
 pub compare-all-spec : {M : Type 1} → statement M
 compare-all-spec =
@@ -29,13 +29,6 @@ compare-all-spec =
     (λ c. search needs)
     (λ c. search needs)
     (λ c. search needs)
-    (λ c. search needs)
-    (λ c. search needs)
-    (λ c κs. search needs)
-    (λ c κs. search needs)
-    (λ c. search needs)
-    (λ c κs. search needs)
-    (λ c κs. search needs)
     (λ c. search needs)
     (λ c κs. search needs)
     (λ c. search needs))
