@@ -1,10 +1,10 @@
--- `row_test::class_agrees` is safe and ends.
+-- `row_test::all_rows::class_agrees` is safe and ends.
 use mathlib.Core.Path.{sym}
 use native.Mathlib.Omega.{arith}
 use lib.Seq.{length-take-le}
 use borrow.Author.Needs.{needs}
-use Rattle.row_test.proofs.class_agrees.Statement.{statement}
-use Rattle.row_test.proofs.class_agrees.Tie as tie
+use Rattle.row_test.proofs.all_rows.class_agrees.Statement.{statement}
+use Rattle.row_test.proofs.all_rows.class_agrees.Tie as tie
 
 slice-aggregate-class : tie.Need-slice-aggregate-class
 slice-aggregate-class c = sym (length-take-le _ _ (omega arith))

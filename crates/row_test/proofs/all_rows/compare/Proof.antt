@@ -1,17 +1,17 @@
--- `row_test::compare_all` is safe and ends: each length adds at most 1024 to both counts.
+-- `row_test::all_rows::compare` is safe and ends: each length adds at most 1024 to both counts.
 use Prim.Native.Nat.{_≤_, _*_, _-_}
 use borrow.Author.Needs.{needs}
-use Rattle.row_test.proofs.compare_all.Statement.{statement}
-use Rattle.row_test.proofs.compare_all.Tie as tie
+use Rattle.row_test.proofs.all_rows.compare.Statement.{statement}
+use Rattle.row_test.proofs.all_rows.compare.Tie as tie
 
 abbrev Inv-loop : tie.InvT-loop
-Inv-loop what compared₀ agreed₀ n₀ compared agreed n = (1 ≤ n) × (n ≤ 11) × (compared ≤ 1024 * n) × (agreed ≤ 1024 * n)
+Inv-loop name what compared₀ agreed₀ n₀ compared agreed n = (1 ≤ n) × (n ≤ 11) × (compared ≤ 1024 * n) × (agreed ≤ 1024 * n)
 
 abbrev μ-loop : tie.MeasureT-loop
-μ-loop what compared₀ agreed₀ n₀ compared agreed n = 11 - n
+μ-loop name what compared₀ agreed₀ n₀ compared agreed n = 11 - n
 
-pub compare-all-spec : {M : Type 1} → statement M
-compare-all-spec =
+pub compare-spec : {M : Type 1} → statement M
+compare-spec =
     tie.close
     (tie.spec
     Inv-loop
@@ -23,5 +23,6 @@ compare-all-spec =
     (λ c. search needs)
     (λ c. search needs)
     (λ c. search needs)
+    (λ c κs. search needs)
     (λ c κs. search needs)
     (λ c. search needs))

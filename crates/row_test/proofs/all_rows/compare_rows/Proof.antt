@@ -1,8 +1,8 @@
--- `row_test::compare_rows` is safe and ends: it counts at most the rows passed.
+-- `row_test::all_rows::compare_rows` is safe and ends: it counts at most the rows passed.
 use Prim.Native.Nat.{_≤_, _-_}
 use borrow.Author.Needs.{needs}
-use Rattle.row_test.proofs.compare_rows.Statement.{statement}
-use Rattle.row_test.proofs.compare_rows.Tie as tie
+use Rattle.row_test.proofs.all_rows.compare_rows.Statement.{statement}
+use Rattle.row_test.proofs.all_rows.compare_rows.Tie as tie
 
 abbrev Inv-loop : tie.InvT-loop
 Inv-loop what n rows compared₀ agreed₀ number₀ compared agreed number = (number ≤ 1024) × (compared ≤ number) × (agreed ≤ number)

@@ -1,8 +1,8 @@
--- `row_test::first_least` is safe and ends.
+-- `row_test::all_rows::first_least` is safe and ends.
 use Prim.Native.Nat.{_≤_, _-_}
 use borrow.Author.Needs.{needs}
-use Rattle.row_test.proofs.first_least.Statement.{statement}
-use Rattle.row_test.proofs.first_least.Tie as tie
+use Rattle.row_test.proofs.all_rows.first_least.Statement.{statement}
+use Rattle.row_test.proofs.all_rows.first_least.Tie as tie
 
 abbrev Inv-loop : tie.InvT-loop
 Inv-loop row n j₀ j = j ≤ n

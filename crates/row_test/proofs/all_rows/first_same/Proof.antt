@@ -1,8 +1,8 @@
--- `row_test::first_same` is safe and ends.
+-- `row_test::all_rows::first_same` is safe and ends.
 use Prim.Native.Nat.{_≤_, _-_}
 use borrow.Author.Needs.{needs}
-use Rattle.row_test.proofs.first_same.Statement.{statement}
-use Rattle.row_test.proofs.first_same.Tie as tie
+use Rattle.row_test.proofs.all_rows.first_same.Statement.{statement}
+use Rattle.row_test.proofs.all_rows.first_same.Tie as tie
 
 abbrev Inv-loop : tie.InvT-loop
 Inv-loop row n p₀ p = p ≤ n

@@ -1,10 +1,10 @@
--- `row_test::gives_row` is safe and ends.
+-- `row_test::all_rows::gives_row` is safe and ends.
 use mathlib.Core.Path.{sym}
 use native.Mathlib.Omega.{arith}
 use lib.Seq.{length-take-le}
 use borrow.Author.Needs.{needs}
-use Rattle.row_test.proofs.gives_row.Statement.{statement}
-use Rattle.row_test.proofs.gives_row.Tie as tie
+use Rattle.row_test.proofs.all_rows.gives_row.Statement.{statement}
+use Rattle.row_test.proofs.all_rows.gives_row.Tie as tie
 
 slice-aggregate-row-of-gaps : tie.Need-slice-aggregate-row-of-gaps
 slice-aggregate-row-of-gaps c = sym (length-take-le _ _ (omega arith))

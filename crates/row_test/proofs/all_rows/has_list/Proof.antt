@@ -1,8 +1,8 @@
--- `row_test::has_list` is safe and ends.
+-- `row_test::all_rows::has_list` is safe and ends.
 use Prim.Native.Nat.{_≤_, _-_}
 use borrow.Author.Needs.{needs}
-use Rattle.row_test.proofs.has_list.Statement.{statement}
-use Rattle.row_test.proofs.has_list.Tie as tie
+use Rattle.row_test.proofs.all_rows.has_list.Statement.{statement}
+use Rattle.row_test.proofs.all_rows.has_list.Tie as tie
 
 abbrev Inv-loop : tie.InvT-loop
 Inv-loop row n i₀ i = i ≤ n

@@ -1,8 +1,8 @@
--- `row_test::is_turn` is safe and ends.
+-- `row_test::all_rows::is_turn` is safe and ends.
 use Prim.Native.Nat.{_≤_, _-_}
 use borrow.Author.Needs.{needs}
-use Rattle.row_test.proofs.is_turn.Statement.{statement}
-use Rattle.row_test.proofs.is_turn.Tie as tie
+use Rattle.row_test.proofs.all_rows.is_turn.Statement.{statement}
+use Rattle.row_test.proofs.all_rows.is_turn.Tie as tie
 
 abbrev Inv-loop : tie.InvT-loop
 Inv-loop out row n j k₀ k = k ≤ n

@@ -1,10 +1,10 @@
--- `row_test::key_agrees` is safe and ends.
+-- `row_test::all_rows::key_agrees` is safe and ends.
 use mathlib.Core.Path.{sym}
 use native.Mathlib.Omega.{arith}
 use lib.Seq.{length-take-le}
 use borrow.Author.Needs.{needs}
-use Rattle.row_test.proofs.key_agrees.Statement.{statement}
-use Rattle.row_test.proofs.key_agrees.Tie as tie
+use Rattle.row_test.proofs.all_rows.key_agrees.Statement.{statement}
+use Rattle.row_test.proofs.all_rows.key_agrees.Tie as tie
 
 slice-aggregate-key : tie.Need-slice-aggregate-key
 slice-aggregate-key c = sym (length-take-le _ _ (omega arith))

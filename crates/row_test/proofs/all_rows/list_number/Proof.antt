@@ -1,16 +1,16 @@
--- `row_test::list_agrees` is safe and ends.
+-- `row_test::all_rows::list_number` is safe and ends.
 use mathlib.Core.Path.{sym}
 use native.Mathlib.Omega.{arith}
 use lib.Seq.{length-take-le}
 use borrow.Author.Needs.{needs}
-use Rattle.row_test.proofs.list_agrees.Statement.{statement}
-use Rattle.row_test.proofs.list_agrees.Tie as tie
+use Rattle.row_test.proofs.all_rows.list_number.Statement.{statement}
+use Rattle.row_test.proofs.all_rows.list_number.Tie as tie
 
 slice-aggregate-gaps-of-row : tie.Need-slice-aggregate-gaps-of-row
 slice-aggregate-gaps-of-row c = sym (length-take-le _ _ (omega arith))
 
-pub list-agrees-spec : {M : Type 1} → statement M
-list-agrees-spec =
+pub list-number-spec : {M : Type 1} → statement M
+list-number-spec =
     tie.close
     (tie.spec
     (λ c. search needs)
@@ -18,6 +18,8 @@ list-agrees-spec =
     (λ c. search needs)
     (λ c κs. search needs)
     (λ c. search needs)
+    (λ c. search needs)
+    (λ c κs. search needs)
     (λ c. search needs)
     (λ c κs. search needs)
     (λ c. search needs)

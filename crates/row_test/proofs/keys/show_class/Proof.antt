@@ -1,10 +1,10 @@
--- `row_test::show_class` is safe and ends.
+-- `row_test::keys::show_class` is safe and ends.
 use mathlib.Core.Path.{sym}
 use native.Mathlib.Omega.{arith}
 use lib.Seq.{length-take-le}
 use borrow.Author.Needs.{needs}
-use Rattle.row_test.proofs.show_class.Statement.{statement}
-use Rattle.row_test.proofs.show_class.Tie as tie
+use Rattle.row_test.proofs.keys.show_class.Statement.{statement}
+use Rattle.row_test.proofs.keys.show_class.Tie as tie
 
 slice-aggregate-class : tie.Need-slice-aggregate-class
 slice-aggregate-class c = sym (length-take-le _ _ (omega arith))

@@ -1,11 +1,11 @@
--- `row_test::show_key` is safe and ends.
+-- `row_test::keys::show_key` is safe and ends.
 use mathlib.Core.Path.{sym}
 use native.Mathlib.Omega.{arith}
 use lib.ListN.{length-take}
 use lib.Seq.{length-take-le}
 use borrow.Author.Needs.{needs}
-use Rattle.row_test.proofs.show_key.Statement.{statement}
-use Rattle.row_test.proofs.show_key.Tie as tie
+use Rattle.row_test.proofs.keys.show_key.Statement.{statement}
+use Rattle.row_test.proofs.keys.show_key.Tie as tie
 
 slice-aggregate-key : tie.Need-slice-aggregate-key
 slice-aggregate-key c = sym (length-take-le _ _ (omega arith))

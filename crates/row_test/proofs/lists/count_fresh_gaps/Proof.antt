@@ -1,8 +1,8 @@
--- `row_test::count_fresh_gaps` is safe and ends: it counts at most the numbers passed.
+-- `row_test::lists::count_fresh_gaps` is safe and ends: it counts at most the numbers passed.
 use Prim.Native.Nat.{_≤_, _-_}
 use borrow.Author.Needs.{needs}
-use Rattle.row_test.proofs.count_fresh_gaps.Statement.{statement}
-use Rattle.row_test.proofs.count_fresh_gaps.Tie as tie
+use Rattle.row_test.proofs.lists.count_fresh_gaps.Statement.{statement}
+use Rattle.row_test.proofs.lists.count_fresh_gaps.Tie as tie
 
 abbrev Inv-loop : tie.InvT-loop
 Inv-loop buffer fresh₀ i₀ fresh i = (i ≤ 80) × (fresh ≤ i)

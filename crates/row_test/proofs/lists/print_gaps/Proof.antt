@@ -1,8 +1,8 @@
--- `row_test::print_gaps` is safe and ends.
+-- `row_test::lists::print_gaps` is safe and ends.
 use Prim.Native.Nat.{_≤_, _-_}
 use borrow.Author.Needs.{needs}
-use Rattle.row_test.proofs.print_gaps.Statement.{statement}
-use Rattle.row_test.proofs.print_gaps.Tie as tie
+use Rattle.row_test.proofs.lists.print_gaps.Statement.{statement}
+use Rattle.row_test.proofs.lists.print_gaps.Tie as tie
 
 abbrev Inv-loop : tie.InvT-loop
 Inv-loop count list k₀ t4 k = k ≤ count

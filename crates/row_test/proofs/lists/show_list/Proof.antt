@@ -1,11 +1,11 @@
--- `row_test::show_list` is safe and ends.
+-- `row_test::lists::show_list` is safe and ends.
 use mathlib.Core.Path.{sym}
 use native.Mathlib.Omega.{arith}
 use lib.ListN.{length-take}
 use lib.Seq.{length-take-le}
 use borrow.Author.Needs.{needs}
-use Rattle.row_test.proofs.show_list.Statement.{statement}
-use Rattle.row_test.proofs.show_list.Tie as tie
+use Rattle.row_test.proofs.lists.show_list.Statement.{statement}
+use Rattle.row_test.proofs.lists.show_list.Tie as tie
 
 slice-aggregate-gaps-of-row : tie.Need-slice-aggregate-gaps-of-row
 slice-aggregate-gaps-of-row c = sym (length-take-le _ _ (omega arith))

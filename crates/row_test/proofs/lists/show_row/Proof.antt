@@ -1,9 +1,9 @@
--- `row_test::show_row` is safe and ends.
+-- `row_test::lists::show_row` is safe and ends.
 use native.Mathlib.Omega.{arith}
 use lib.ListN.{length-take}
 use borrow.Author.Needs.{needs}
-use Rattle.row_test.proofs.show_row.Statement.{statement}
-use Rattle.row_test.proofs.show_row.Tie as tie
+use Rattle.row_test.proofs.lists.show_row.Statement.{statement}
+use Rattle.row_test.proofs.lists.show_row.Tie as tie
 
 slice-aggregate-row-of-gaps : tie.Need-slice-aggregate-row-of-gaps
 slice-aggregate-row-of-gaps c = simp length-take (omega arith)
