@@ -6,7 +6,9 @@ ghost use lib.ListN.{length};
 // What a buffer holds before it is lent: no symbol.
 pub const FRESH: u8 = 7;
 
-fn wide(x: u8) -> usize {
+pub fn wide(x: u8) -> usize
+    ensures { λ r. ⌜ r < 256 ⌝ }
+{
     x as usize
 }
 

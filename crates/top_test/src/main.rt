@@ -1,13 +1,7 @@
 // Prints top rings, compares all of them with the closed form, and shows the refusals.
 use density::Top;
 use plain_rows::FRESH;
-ghost use Prim.Native.Nat.{_+_, _<_, _≤_};
-
-fn wide(x: u8) -> usize
-    ensures { λ r. ⌜ r < 256 ⌝ }
-{
-    x as usize
-}
+ghost use Prim.Native.Nat.{_<_, _≤_};
 
 // Whether each symbol of the row is floor(i d / n) - floor((i - 1) d / n), at its place i.
 fn agrees(n: usize, d: usize, row: &[u8; 64]) -> bool
@@ -20,7 +14,7 @@ fn agrees(n: usize, d: usize, row: &[u8; 64]) -> bool
     while i < n {
         let before = product / n;
         product += d;
-        if before + wide(row[i]) != product / n {
+        if before + plain_rows::wide(row[i]) != product / n {
             return false;
         }
         i += 1;
@@ -50,8 +44,8 @@ fn compare_all() {
     while n <= 64 {
         let mut d: usize = 0;
         while d <= n {
-            compared += 1;
             agreed += plain_rows::one_if(top_agrees(n, d));
+            compared += 1;
             d += 1;
         }
         n += 1;
