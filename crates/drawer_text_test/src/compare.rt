@@ -1,12 +1,9 @@
 // Inputs and lines by the hundred, compared with what they must give.
-use crate::print_number;
 use drawer_text::Request;
+use plain_rows::FRESH;
 ghost use mathlib.Core.Path.{_≡_};
 ghost use Prim.Native.Nat.{_≤_};
 ghost use lib.ListN.{length};
-
-// What a buffer holds before it is lent.
-const FRESH: u8 = 7;
 
 // A piece behind what a text holds, as far as there is room.
 fn append(text: &mut [u8], at: usize, piece: &[u8]) -> usize
@@ -196,9 +193,7 @@ fn count_agreed(sort: Sort, count: usize) -> usize {
     let mut agreed: usize = 0;
     let mut n: usize = 0;
     while n < count {
-        if agrees(sort, n) {
-            agreed += 1;
-        }
+        agreed += plain_rows::one_if(agrees(sort, n));
         n += 1;
     }
     agreed
@@ -206,11 +201,7 @@ fn count_agreed(sort: Sort, count: usize) -> usize {
 
 fn print_count(what: &[u8], compared: usize, agreed: usize) {
     io::write_all(1, what);
-    io::write_all(1, b" compared ");
-    print_number(compared);
-    io::write_all(1, b" agreed ");
-    print_number(agreed);
-    io::write_all(1, b"\n");
+    plain_rows::print_counts(compared, agreed);
 }
 
 fn compare_ends() {
@@ -218,20 +209,18 @@ fn compare_ends() {
     let mut compared: usize = 0;
     let mut n: u64 = 18446744073709551615;
     while 0 < n {
-        if end_agrees(n) {
-            agreed += 1;
-        }
+        agreed += plain_rows::one_if(end_agrees(n));
         compared += 1;
         n = n - n / 40 - 1;
     }
-    print_count(b"ends", compared, agreed);
+    print_count(b"ends ", compared, agreed);
 }
 
 pub fn compare_all() {
-    print_count(b"numbers", 1100, count_agreed(Sort::Numbers, 1100));
-    print_count(b"lengths", 240, count_agreed(Sort::Lengths, 240));
-    print_count(b"bytes", 256, count_agreed(Sort::Bytes, 256));
-    print_count(b"names", 6656, count_agreed(Sort::Names, 6656));
-    print_count(b"rooms", 257, count_agreed(Sort::Rooms, 257));
+    print_count(b"numbers ", 1100, count_agreed(Sort::Numbers, 1100));
+    print_count(b"lengths ", 240, count_agreed(Sort::Lengths, 240));
+    print_count(b"bytes ", 256, count_agreed(Sort::Bytes, 256));
+    print_count(b"names ", 6656, count_agreed(Sort::Names, 6656));
+    print_count(b"rooms ", 257, count_agreed(Sort::Rooms, 257));
     compare_ends();
 }

@@ -2,61 +2,22 @@
 mod compare;
 
 use drawer_text::Request;
+use plain_rows::FRESH;
 use refusal::Refusal;
-ghost use Prim.Native.Nat.{_<_, _≤_};
-
-// What a buffer holds before it is lent.
-const FRESH: u8 = 7;
-
-pub fn print_number(n: usize) {
-    io::print_decimal(1, n as u64);
-}
-
-fn wide(x: u8) -> usize {
-    x as usize
-}
-
-fn print_symbols(count: usize, symbols: &[u8; 256]) {
-    let mut i: usize = 0;
-    while i < count {
-        if i < 256 {
-            print_number(wide(symbols[i]));
-        }
-        i += 1;
-    }
-}
-
-// How many bytes of the buffer are as they were.
-fn count_fresh(buffer: &[u8; 256]) -> usize {
-    let mut fresh: usize = 0;
-    let mut i: usize = 0;
-    while i < 256 {
-        if buffer[i] == FRESH {
-            fresh += 1;
-        }
-        i += 1;
-    }
-    fresh
-}
+ghost use Prim.Native.Nat.{_≤_};
 
 fn print_request(r: Request, symbols: &[u8; 256]) {
     match r {
         Request::Drawer(stations, holes, kind, size) => {
-            print_number(stations);
+            plain_rows::print_named(b"", stations);
+            plain_rows::print_named(b" ", holes);
+            plain_rows::print_named(b" ", kind);
             io::write_all(1, b" ");
-            print_number(holes);
-            io::write_all(1, b" ");
-            print_number(kind);
-            io::write_all(1, b" ");
-            print_symbols(size, symbols);
+            plain_rows::print_row(size, symbols);
         }
-        Request::Refused(why) => {
-            io::write_all(1, b"refused ");
-            print_number(wide(refusal::number(why)));
-            io::write_all(1, b" place ");
-            print_number(refusal::place(why));
-        }
+        Request::Refused(why) => plain_rows::print_refusal(why),
     }
+    plain_rows::print_as_before(plain_rows::count_fresh(symbols));
 }
 
 // A line for an input, with a buffer of which room bytes are lent.
@@ -66,9 +27,6 @@ fn show(text: &[u8], room: usize)
     let mut limit = [FRESH; 256];
     let r = drawer_text::read_drawer(text, &mut limit[..room]);
     print_request(r, &limit);
-    io::write_all(1, b" as before ");
-    print_number(count_fresh(&limit));
-    io::write_all(1, b"\n");
 }
 
 fn show_first_lines() {

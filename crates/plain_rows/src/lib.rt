@@ -3,7 +3,12 @@ use refusal::Refusal;
 ghost use Prim.Native.Nat.{_<_, _≤_};
 ghost use lib.ListN.{length};
 
-fn wide(x: u8) -> usize {
+// What a buffer holds before it is lent: no symbol.
+pub const FRESH: u8 = 7;
+
+pub fn wide(x: u8) -> usize
+    ensures { λ r. ⌜ r < 256 ⌝ }
+{
     x as usize
 }
 
@@ -15,6 +20,21 @@ pub fn print_named(name: &[u8], n: usize) {
 pub fn print_refusal(r: Refusal) {
     print_named(b"refused ", wide(refusal::number(r)));
     print_named(b" place ", refusal::place(r));
+}
+
+// A count of what was compared, and of what agreed.
+pub fn print_counts(compared: usize, agreed: usize) {
+    print_named(b"compared ", compared);
+    print_named(b" agreed ", agreed);
+    io::write_all(1, b"\n");
+}
+
+pub fn print_truth(said: bool) {
+    if said {
+        io::write_all(1, b"yes");
+    } else {
+        io::write_all(1, b"no");
+    }
 }
 
 pub fn one_if(holds: bool) -> usize
@@ -36,14 +56,32 @@ pub fn symbols(digits: &[u8]) -> [u8; 80]
     row
 }
 
-pub fn print_row(n: usize, row: &[u8; 80]) {
+// The first n symbols, as far as there are so many.
+pub fn print_row(n: usize, row: &[u8]) {
     let mut i: usize = 0;
     while i < n {
-        if i < 80 {
+        if i < row.len() {
             print_named(b"", wide(row[i]));
         }
         i += 1;
     }
+}
+
+// How many bytes of the buffer are as they were.
+pub fn count_fresh(buffer: &[u8]) -> usize {
+    let mut fresh: usize = 0;
+    let mut i: usize = 0;
+    while i < buffer.len() {
+        fresh += one_if(buffer[i] == FRESH);
+        i += 1;
+    }
+    fresh
+}
+
+// The end of a line: how much of a buffer is as it was.
+pub fn print_as_before(fresh: usize) {
+    print_named(b" as before ", fresh);
+    io::write_all(1, b"\n");
 }
 
 // How many rows of n stations there are, n up to 10.

@@ -162,13 +162,7 @@ fn compare_all() {
 
 fn print_answer(answer: PrefixAnswer) {
     match answer {
-        PrefixAnswer::Answered(yes) => {
-            if yes {
-                io::write_all(1, b"yes");
-            } else {
-                io::write_all(1, b"no");
-            }
-        }
+        PrefixAnswer::Answered(yes) => plain_rows::print_truth(yes),
         PrefixAnswer::Refused(r) => plain_rows::print_refusal(r),
     }
 }

@@ -1,15 +1,7 @@
 // Prints top rings, compares all of them with the closed form, and shows the refusals.
 use density::Top;
-ghost use Prim.Native.Nat.{_+_, _<_, _≤_};
-
-// What a buffer holds before it is lent.
-const FRESH: u8 = 7;
-
-fn wide(x: u8) -> usize
-    ensures { λ r. ⌜ r < 256 ⌝ }
-{
-    x as usize
-}
+use plain_rows::FRESH;
+ghost use Prim.Native.Nat.{_<_, _≤_};
 
 // Whether each symbol of the row is floor(i d / n) - floor((i - 1) d / n), at its place i.
 fn agrees(n: usize, d: usize, row: &[u8; 64]) -> bool
@@ -22,7 +14,7 @@ fn agrees(n: usize, d: usize, row: &[u8; 64]) -> bool
     while i < n {
         let before = product / n;
         product += d;
-        if before + wide(row[i]) != product / n {
+        if before + plain_rows::wide(row[i]) != product / n {
             return false;
         }
         i += 1;
@@ -44,76 +36,29 @@ fn top_agrees(n: usize, d: usize) -> bool
     }
 }
 
-// How many of the n + 1 top rings of n stations agree.
-fn count_agreed(n: usize) -> usize
-    requires { ⌜ 0 < n ⌝ }
-    requires { ⌜ n ≤ 64 ⌝ }
-    ensures { λ r. ⌜ r ≤ n + 1 ⌝ }
-{
-    let mut agreed: usize = 0;
-    let mut d: usize = 0;
-    while d <= n {
-        if top_agrees(n, d) {
-            agreed += 1;
-        }
-        d += 1;
-    }
-    agreed
-}
-
-fn print_number(n: usize) {
-    io::print_decimal(1, n as u64);
-}
-
+// All top rings of up to 64 stations.
 fn compare_all() {
     let mut compared: usize = 0;
     let mut agreed: usize = 0;
     let mut n: usize = 1;
     while n <= 64 {
-        compared += n + 1;
-        agreed += count_agreed(n);
+        let mut d: usize = 0;
+        while d <= n {
+            agreed += plain_rows::one_if(top_agrees(n, d));
+            compared += 1;
+            d += 1;
+        }
         n += 1;
     }
-    io::write_all(1, b"compared ");
-    print_number(compared);
-    io::write_all(1, b" agreed ");
-    print_number(agreed);
-    io::write_all(1, b"\n");
+    plain_rows::print_counts(compared, agreed);
 }
 
-fn print_row(n: usize, row: &[u8; 64]) {
-    let mut i: usize = 0;
-    while i < n {
-        if i < 64 {
-            print_number(wide(row[i]));
-        }
-        i += 1;
-    }
-}
-
-// How many bytes of the buffer are as they were.
-fn count_fresh(buffer: &[u8; 64]) -> usize {
-    let mut fresh: usize = 0;
-    let mut i: usize = 0;
-    while i < 64 {
-        if buffer[i] == FRESH {
-            fresh += 1;
-        }
-        i += 1;
-    }
-    fresh
-}
-
-fn print_answer(top: Top, n: usize, row: &[u8; 64]) {
+fn print_answer(top: Top, n: usize, out: &[u8; 64]) {
     match top {
-        Top::Written => print_row(n, row),
-        Top::Refused(r) => {
-            io::write_all(1, b"refused ");
-            print_number(wide(refusal::number(r)));
-            io::write_all(1, b" place ");
-            print_number(refusal::place(r));
-        }
+        Top::Written => plain_rows::print_row(n, out),
+        Top::Refused(r) => plain_rows::print_refusal(r),
     }
+    plain_rows::print_as_before(plain_rows::count_fresh(out));
 }
 
 // A line for the question of (n, d) with a buffer of 64 bytes, of which room are lent.
@@ -122,14 +67,10 @@ fn show(n: usize, d: usize, room: usize)
 {
     let mut out = [FRESH; 64];
     let top = density::largest_necklace(n, d, &mut out[..room]);
-    print_number(n);
-    io::write_all(1, b" ");
-    print_number(d);
+    plain_rows::print_named(b"", n);
+    plain_rows::print_named(b" ", d);
     io::write_all(1, b" ");
     print_answer(top, n, &out);
-    io::write_all(1, b" as before ");
-    print_number(count_fresh(&out));
-    io::write_all(1, b"\n");
 }
 
 fn show_all(most: usize)

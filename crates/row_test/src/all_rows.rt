@@ -1,0 +1,216 @@
+// Key, class and gap list of all rows of up to 10 stations, against plain search.
+use crate::lists::FRESH_GAP;
+use gaps::ListAnswer;
+use necklace::ClassAnswer;
+use necklace::KeyAnswer;
+use plain_rows::FRESH;
+ghost use Prim.Native.Nat.{_<_, _≤_};
+
+// The smallest turn that is least.
+fn first_least(row: &[u8; 64], n: usize) -> usize
+    requires { ⌜ 0 < n ⌝ }
+    requires { ⌜ n ≤ 64 ⌝ }
+    ensures { λ r. ⌜ r ≤ 64 ⌝ }
+{
+    let mut j: usize = 0;
+    while j < n {
+        if plain_rows::is_least(row, n, j) {
+            return j;
+        }
+        j += 1;
+    }
+    n
+}
+
+// The smallest turn from 1 that gives the row back.
+fn first_same(row: &[u8; 64], n: usize) -> usize
+    requires { ⌜ 0 < n ⌝ }
+    requires { ⌜ n ≤ 64 ⌝ }
+{
+    let mut p: usize = 1;
+    while p < n {
+        if plain_rows::turn_order(row, n, p, 0) == 1 {
+            return p;
+        }
+        p += 1;
+    }
+    n
+}
+
+// Whether the first n bytes are turn j of the row.
+fn is_turn(out: &[u8; 64], row: &[u8; 64], n: usize, j: usize) -> bool
+    requires { ⌜ 0 < n ⌝ }
+    requires { ⌜ n ≤ 64 ⌝ }
+    requires { ⌜ j ≤ 64 ⌝ }
+{
+    let mut k: usize = 0;
+    while k < n {
+        if out[k] != plain_rows::symbol(row, n, j + k) {
+            return false;
+        }
+        k += 1;
+    }
+    true
+}
+
+fn key_agrees(row: [u8; 64], n: usize) -> bool
+    requires { ⌜ 0 < n ⌝ }
+    requires { ⌜ n ≤ 64 ⌝ }
+{
+    let mut out = [FRESH; 64];
+    let answer = necklace::key(&row[..n], &mut out);
+    let least = first_least(&row, n);
+    if !is_turn(&out, &row, n, least) {
+        return false;
+    }
+    match answer {
+        KeyAnswer::Found { rotation, period } => {
+            if rotation == least {
+                period == first_same(&row, n)
+            } else {
+                false
+            }
+        }
+        KeyAnswer::Refused(_) => false,
+    }
+}
+
+fn class_agrees(row: [u8; 64], n: usize) -> bool
+    requires { ⌜ 0 < n ⌝ }
+    requires { ⌜ n ≤ 64 ⌝ }
+{
+    let shelved = plain_rows::is_least(&row, n, 0);
+    match necklace::class(&row[..n]) {
+        ClassAnswer::Of { necklace, lyndon } => {
+            if necklace != shelved {
+                return false;
+            }
+            if shelved {
+                lyndon == (first_same(&row, n) == n)
+            } else {
+                !lyndon
+            }
+        }
+        ClassAnswer::Refused(_) => false,
+    }
+}
+
+// Whether the row has no hole, or ends in one.
+fn has_list(row: &[u8; 64], n: usize) -> bool
+    requires { ⌜ 0 < n ⌝ }
+    requires { ⌜ n ≤ 64 ⌝ }
+{
+    let mut i: usize = 0;
+    while i < n {
+        if row[i] == 1 {
+            return row[n - 1] == 1;
+        }
+        i += 1;
+    }
+    true
+}
+
+// Whether the first k gaps of a list give the row.
+fn gives_row(list: [usize; 64], k: usize, row: &[u8; 64], n: usize) -> bool
+    requires { ⌜ k ≤ 64 ⌝ }
+    requires { ⌜ 0 < n ⌝ }
+    requires { ⌜ n ≤ 64 ⌝ }
+{
+    let mut out = [FRESH; 64];
+    gaps::row_of_gaps(n, &list[..k], &mut out);
+    is_turn(&out, row, n, 0)
+}
+
+// What the row's gap list comes to: 0 it gives the row back, 255 it does not, else the refusal's number.
+fn list_number(row: [u8; 64], n: usize) -> u8
+    requires { ⌜ 0 < n ⌝ }
+    requires { ⌜ n ≤ 64 ⌝ }
+{
+    let mut list = [FRESH_GAP; 64];
+    match gaps::gaps_of_row(&row[..n], &mut list) {
+        ListAnswer::Listed(k) => {
+            if 64 < k {
+                return 255;
+            }
+            if gives_row(list, k, &row, n) { 0 } else { 255 }
+        }
+        ListAnswer::NoList(r) => refusal::number(r),
+    }
+}
+
+// What is compared.
+enum Compared {
+    Key,
+    Class,
+    RoundTrip,
+    NoList,
+}
+
+// Whether the comparison is one of this row.
+fn concerns(what: Compared, row: &[u8; 64], n: usize) -> bool
+    requires { ⌜ 0 < n ⌝ }
+    requires { ⌜ n ≤ 64 ⌝ }
+{
+    match what {
+        Compared::Key => true,
+        Compared::Class => true,
+        Compared::RoundTrip => has_list(row, n),
+        Compared::NoList => !has_list(row, n),
+    }
+}
+
+fn agrees(what: Compared, row: [u8; 64], n: usize) -> bool
+    requires { ⌜ 0 < n ⌝ }
+    requires { ⌜ n ≤ 64 ⌝ }
+{
+    match what {
+        Compared::Key => key_agrees(row, n),
+        Compared::Class => class_agrees(row, n),
+        Compared::RoundTrip => list_number(row, n) == 0,
+        Compared::NoList => list_number(row, n) == 8,
+    }
+}
+
+struct Counts {
+    compared: usize,
+    agreed: usize,
+}
+
+fn compare_rows(what: Compared, n: usize) -> Counts
+    requires { ⌜ 0 < n ⌝ }
+    requires { ⌜ n ≤ 64 ⌝ }
+    ensures { λ r. ⌜ (r .compared ≤ 1024) × (r .agreed ≤ 1024) ⌝ }
+{
+    let rows = plain_rows::count_rows(n);
+    let mut compared: usize = 0;
+    let mut agreed: usize = 0;
+    let mut number: usize = 0;
+    while number < rows {
+        let row = plain_rows::row_of_number(n, number);
+        compared += plain_rows::one_if(concerns(what, &row, n));
+        agreed += plain_rows::one_if(agrees(what, row, n));
+        number += 1;
+    }
+    Counts { compared, agreed }
+}
+
+fn compare(name: &[u8], what: Compared) {
+    let mut compared: usize = 0;
+    let mut agreed: usize = 0;
+    let mut n: usize = 1;
+    while n <= 10 {
+        let counts = compare_rows(what, n);
+        compared += counts.compared;
+        agreed += counts.agreed;
+        n += 1;
+    }
+    io::write_all(1, name);
+    plain_rows::print_counts(compared, agreed);
+}
+
+pub fn compare_all() {
+    compare(b"key ", Compared::Key);
+    compare(b"class ", Compared::Class);
+    compare(b"gap list and back ", Compared::RoundTrip);
+    compare(b"no gap list, refused 8 ", Compared::NoList);
+}
