@@ -59,8 +59,8 @@ pub fn symbols(digits: &[u8]) -> [u8; 80]
 // The first n symbols, as far as there are so many.
 pub fn print_row(n: usize, row: &[u8]) {
     let mut i: usize = 0;
-    while i < n {
-        if i < row.len() {
+    while i < row.len() {
+        if i < n {
             print_named(b"", wide(row[i]));
         }
         i += 1;

@@ -2,13 +2,6 @@
 use walk::Answer;
 use walk::Standing;
 use walk::Walk;
-ghost use Prim.Native.Nat.{_<_};
-
-pub fn wide(x: u8) -> usize
-    ensures { λ r. ⌜ r < 256 ⌝ }
-{
-    x as usize
-}
 
 // A ring 0, none 1, or the refusal's number.
 pub fn answer_number(answer: Answer) -> u8 {
@@ -100,20 +93,9 @@ pub fn few(trials: u64) -> usize {
 
 // ---- printing
 
-pub fn print_symbols(n: usize, row: &[u8; 64]) {
-    let mut i: usize = 0;
-    while i < 64 {
-        if i < n {
-            plain_rows::print_named(b"", wide(row[i]));
-        }
-        i += 1;
-    }
-}
-
+// The end of a line: yes or no.
 pub fn print_truth(holds: bool) {
-    if holds {
-        io::write_all(1, b" yes\n");
-    } else {
-        io::write_all(1, b" no\n");
-    }
+    io::write_all(1, b" ");
+    plain_rows::print_truth(holds);
+    io::write_all(1, b"\n");
 }

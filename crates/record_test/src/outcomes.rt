@@ -22,7 +22,7 @@ fn number_of(n: usize, row: &[u8; 64]) -> usize {
         if 64 <= i {
             return number;
         }
-        number = (2 * number + plain_walks::wide(row[i])) % 10007;
+        number = (2 * number + plain_rows::wide(row[i])) % 10007;
         i += 1;
     }
     number

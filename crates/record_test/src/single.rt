@@ -24,7 +24,7 @@ fn print_said(said: u8) {
         io::write_all(1, b": none");
     }
     if 1 < said {
-        plain_rows::print_named(b": refused ", plain_walks::wide(said));
+        plain_rows::print_named(b": refused ", plain_rows::wide(said));
     }
 }
 
@@ -37,10 +37,10 @@ fn print_step(w: Walk, step: Stepped) {
     io::write_all(1, b" trials ");
     io::print_decimal(1, step.trials);
     io::write_all(1, b" row ");
-    plain_walks::print_symbols(after.n, &row);
+    plain_rows::print_row(after.n, &row);
     plain_rows::print_named(
         b" standing ",
-        plain_walks::wide(plain_walks::standing_number(at)),
+        plain_rows::wide(plain_walks::standing_number(at)),
     );
     plain_rows::print_named(b" place ", plain_walks::standing_place(at));
     io::write_all(1, b" unchanged");

@@ -7,7 +7,7 @@ use walk::Walk;
 fn print_line(number: usize, n: usize, row: [u8; 64], trials: u64) {
     plain_rows::print_named(b"", number);
     io::write_all(1, b" ");
-    plain_walks::print_symbols(n, &row);
+    plain_rows::print_row(n, &row);
     io::write_all(1, b" ");
     io::print_decimal(1, trials);
     io::write_all(1, b"\n");
@@ -18,7 +18,7 @@ fn print_end(said: u8, trials: u64) {
     if said == 1 {
         io::write_all(1, b"end - ");
     } else {
-        plain_rows::print_named(b"refused ", plain_walks::wide(said));
+        plain_rows::print_named(b"refused ", plain_rows::wide(said));
         io::write_all(1, b" trials ");
     }
     io::print_decimal(1, trials);
@@ -75,7 +75,7 @@ fn show(n: usize, d: usize, kind: u8, digits: &[u8]) {
     let w = opening.walk;
     plain_rows::print_named(b"(", n);
     plain_rows::print_named(b",", d);
-    plain_rows::print_named(b") kind ", plain_walks::wide(kind));
+    plain_rows::print_named(b") kind ", plain_rows::wide(kind));
     io::write_all(1, b" limit ");
     io::write_all(1, digits);
     io::write_all(1, b"\n");
