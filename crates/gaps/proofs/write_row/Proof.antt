@@ -97,23 +97,16 @@ loop-holds c =
     let e = c .before .before .clear .ensures in
     start n (s .args .gaps .now) _ (s .pre .1) (omega (arith, cleared-length n O _ e (s .pre .0))) (cleared n O _ e (s .pre .0))
 
-add-place : tie.Need-add-place Inv-loop μ-loop
-add-place c =
+-- the next hole lies within the row
+inside :
+    (c : tie.After-shared-slice-known2 Inv-loop μ-loop) →
     let s = c .before .before .before .before .before .before .before .before .before in
     let l = c .before .before .loop in
-    omega (arith, within (s .args .n) (s .args .gaps .now) _ (l .out) (l .place) (l .k) (l .inv) (omega arith))
-
-slice-write-out : tie.Need-slice-write-out Inv-loop μ-loop
-slice-write-out c =
+    l .place + getD (s .args .gaps .now) (l .k) 0 + 1 ≤ s .args .n
+inside c =
     let s = c .before .before .before .before .before .before .before .before .before in
     let l = c .before .before .loop in
-    omega (arith, within (s .args .n) (s .args .gaps .now) _ (l .out) (l .place) (l .k) (l .inv) (omega arith))
-
-add-place-2 : tie.Need-add-place-2 Inv-loop μ-loop
-add-place-2 c =
-    let s = c .before .before .before .before .before .before .before .before .before in
-    let l = c .before .before .loop in
-    omega (arith, within (s .args .n) (s .args .gaps .now) _ (l .out) (l .place) (l .k) (l .inv) (omega arith))
+    within (s .args .n) (s .args .gaps .now) _ (l .out) (l .place) (l .k) (l .inv) (omega arith)
 
 loop-again : tie.Need-loop-again Inv-loop μ-loop
 loop-again c =
@@ -145,9 +138,9 @@ write-row-spec =
     loop-holds
     (λ c. search needs)
     (λ c. search needs)
-    add-place
-    slice-write-out
-    add-place-2
+    (λ c. omega (arith, inside c))
+    (λ c. omega (arith, inside c))
+    (λ c. omega (arith, inside c))
     (λ c. search needs)
     (λ c. search needs)
     loop-again
