@@ -22,21 +22,22 @@ const FULL: usize = 3968;
 // More rings than can be counted here.
 const MOST_RINGS: u64 = 18446744073709551615;
 
-// Writes the front of a buffer.
-fn print_front(out: &[u8], used: usize)
+// Writes the front of a buffer; whether all of it was taken.
+fn print_front(out: &[u8], used: usize) -> bool
     requires { ⌜ used ≤ length (now out) ⌝ }
 {
-    io::write_all(1, &out[..used]);
+    io::write_all(1, &out[..used])
 }
 
-// Writes the front of a buffer where little room is left; how much is used then.
+// Writes the front of a buffer where little room is left; how much is used then, as much as before if it was not taken.
 fn make_room(out: &[u8], used: usize) -> usize
     requires { ⌜ used ≤ length (now out) ⌝ }
-    ensures { λ r. ⌜ r ≤ 3968 ⌝ }
+    ensures { λ r. ⌜ r ≤ used ⌝ }
 {
     if FULL < used {
-        print_front(out, used);
-        return 0;
+        if print_front(out, used) {
+            return 0;
+        }
     }
     used
 }
@@ -76,6 +77,9 @@ fn print_rings(mut walk: Walk)
     let mut number: u64 = 0;
     while number < MOST_RINGS {
         used = make_room(&out, used);
+        if FULL < used {
+            return;
+        }
         let stepped = walk.step(ALLOWANCE);
         walk = stepped.walk;
         let trials = stepped.trials;

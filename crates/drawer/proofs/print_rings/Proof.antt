@@ -33,7 +33,7 @@ unfolding handed
 step-fit w a r f e = rw e (stays-fit rules w f (a ∷ []))
 
 after-step : (c : tie.After-step Inv-loop μ-loop) → Fit rules (c .step .result .walk)
-after-step c = step-fit _ _ _ (c .before .before .before .before .loop .inv .fits) (c .step .ensures)
+after-step c = step-fit _ _ _ (c .before .before .before .before .before .loop .inv .fits) (c .step .ensures)
 
 loop-holds : tie.Need-loop-holds Inv-loop μ-loop
 loop-holds c =
@@ -48,16 +48,16 @@ loop-holds c =
 add-ring-requires : tie.Need-add-ring-requires Inv-loop μ-loop
 add-ring-requires c κs =
     let s = fit-sound (after-step (c .before .before .before .before)) in
-    (s .some, s .most, omega (arith, c .before .before .before .before .before .make-room .ensures, c .before .before .before .before .before .before .before .before .loop .inv .long))
+    (s .some, s .most, omega (arith, c .before .before .before .before .before .if1 .left, c .before .before .before .before .before .before .before .before .before .loop .inv .long))
 
 loop-again : tie.Need-loop-again Inv-loop μ-loop
-loop-again c = record { fits = after-step (c .before .before .before .before .before .before); long = search needs; room = omega (arith, c .before .add-ring .ensures .1, c .before .before .before .before .before .before .before .make-room .ensures) }
+loop-again c = record { fits = after-step (c .before .before .before .before .before .before); long = search needs; room = omega (arith, c .before .add-ring .ensures .1, c .before .before .before .before .before .before .before .if1 .left) }
 
 print-front-requires-2 : tie.Need-print-front-requires-2 Inv-loop μ-loop
 print-front-requires-2 c κs =
     let e = c .before .before in
     let l : length (e .write-end .last .1 .0) ≡ 4096 = search needs in
-    let g = c .before .before .before .before .before .before .before .before .before .before .before .before .before .loop in
+    let g = c .before .before .before .before .before .before .before .before .before .before .before .before .before .before .loop in
     omega (arith, count-room (endLine _) (length (g .out)) (e .write-end .result) (e .write-end .ensures .0), g .inv .long)
 
 pub print-rings-spec : {M : Type 1} → statement M
@@ -72,6 +72,7 @@ print-rings-spec =
     loop-holds
     (λ c. search needs)
     (λ c κs. search needs)
+    (λ c. search needs)
     (λ c κs. search needs)
     (λ c. search needs)
     (λ c. search needs)
