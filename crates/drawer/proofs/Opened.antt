@@ -1,8 +1,8 @@
--- What is read fits where it was put, and a walk that was opened is fit.
+-- What is read fits where it was put, and a walk that was opened has rings and then none to come.
 use mathlib.Core.Bool.{Bool, false, true}
 use mathlib.Core.List.{List}
 use mathlib.Core.Path.{refl, _≡_}
-use Prim.Native.Nat.{ℕ, _≤_}
+use Prim.Native.Nat.{ℕ, _*_, _-_, _≤_}
 use native.Mathlib.Omega.{arith}
 use lib.Dec.{leb}
 use lib.ListN.{length}
@@ -11,22 +11,30 @@ use Rattle.drawer_text.specs.Input.{Input, asked, faulty, requestOf}
 use Rattle.drawer_text.specs.declared.Request.{Request}
 use Rattle.drawer_text.specs.declared.Request.the-variants.{Drawer, Refused}
 use Rattle.refusal.specs.Verdicts.{Verdict, accepted, refused}
-use Rattle.walk.proofs.Demand.{accepted-opening, fresh-fit}
-use Rattle.walk.specs.Fit.{fit}
+use Rattle.drawer.specs.Printed.{FromOpening}
+use Rattle.walk.proofs.Demand.{accepted-opening}
+use Rattle.walk.proofs.Plenty.{Underway, opened-underway}
 use Rattle.walk.specs.Moves.{rules}
 use Rattle.walk.specs.Opening.{openAnswer, openVerdict}
 use Rattle.walk.specs.declared.OpenAnswer.the-variants.{NotOpen, Open}
 use Rattle.walk.specs.declared.Opened.{Opened}
+use Rattle.walk.specs.declared.Walk.{Walk}
 
-pub open-fit : (n d kind : ℕ) (limit : List ℕ) (o : Opened) → o ≡ openAnswer (openVerdict n d kind limit) rules n d kind limit → o .answer ≡ Open → fit rules (o .walk) ≡ true
-open-fit n d kind limit o e a = go (openVerdict n d kind limit) refl
+pub from-opening : (n d kind : ℕ) (limit : List ℕ) (o : Opened) → o ≡ openAnswer (openVerdict n d kind limit) rules n d kind limit → o .answer ≡ Open → FromOpening (o .walk)
+from-opening n d kind limit o e a = go (openVerdict n d kind limit) refl
   where
-    go : (v : Verdict) → openVerdict n d kind limit ≡ v → fit rules (o .walk) ≡ true
-    go accepted f = rw (e, f) (fresh-fit rules n d kind limit (accepted-opening n d kind limit f) .test)
+    go : (v : Verdict) → openVerdict n d kind limit ≡ v → FromOpening (o .walk)
+    go accepted f = record { n = n; d = d; kind = kind; limit = limit; passed = f; same = rw (e, f) }
     go (refused r) f =
         let b : NotOpen r ≡ Open = rw (e, f) at a in
         let z : _≡_ {A = ℕ} 0 1 = cc in
         absurd (omega arith)
+
+-- rings and then none are to come
+pub opened-so : (w : Walk) → FromOpening w → Underway rules (4 * w .n - 2) w × (w .n ≤ 64)
+opened-so w o =
+    let g = accepted-opening (o .n) (o .d) (o .kind) (o .limit) (o .passed) in
+    rw (o .same) (opened-underway (o .n) (o .d) (o .kind) (o .limit) g, g .most)
 
 -- a limit that was read is no longer than the buffer that it was put into
 abbrev pub Room : Request → ℕ → Type 0

@@ -3,15 +3,14 @@ use drawer_text::Request;
 use refusal::Refusal;
 use walk::Answer;
 use walk::OpenAnswer;
+use walk::Stepped;
 use walk::Walk;
 ghost use mathlib.Core.Path.{_≡_};
-ghost use mathlib.Core.Bool.{true};
 ghost use Prim.Native.Nat.{_+_, _≤_};
 ghost use lib.ListN.{length};
 ghost use Rattle.text.specs.Buffers.{placed};
-ghost use Rattle.walk.specs.Moves.{rules};
-ghost use Rattle.walk.specs.Fit.{fit};
-ghost use Rattle.drawer.specs.Printed.{lineOf};
+ghost use Rattle.walk.specs.declared.Answer.the-variants.{None};
+ghost use Rattle.drawer.specs.Printed.{lineOf, FromOpening};
 
 // All that can be allowed: more than the trials of any ring.
 const ALLOWANCE: u64 = 18446744073709551615;
@@ -68,9 +67,18 @@ fn add_ring(walk: Walk, number: u64, trials: u64, used: usize, out: &mut [u8]) -
     used + size
 }
 
-// Prints the rest of a walk. Lines are gathered, and written when little room is left.
+// The last line, of a step that found none.
+fn print_end(stepped: Stepped)
+    requires { ⌜ stepped .answer ≡ None ⌝ }
+{
+    let mut out = [0u8; 64];
+    let used = drawer_text::write_end(stepped.trials, &mut out);
+    print_front(&out, used);
+}
+
+// Prints the rings of a walk that was opened. Lines are gathered, and written when little room is left.
 fn print_rings(mut walk: Walk)
-    requires { ⌜ fit rules walk ≡ true ⌝ }
+    requires { ⌜ FromOpening walk ⌝ }
 {
     let mut out = io::buffer();
     let mut used = drawer_text::write_header(&mut out);
@@ -81,27 +89,15 @@ fn print_rings(mut walk: Walk)
             return;
         }
         let stepped = walk.step(ALLOWANCE);
-        walk = stepped.walk;
-        let trials = stepped.trials;
         let answer = stepped.answer;
-        match answer {
-            Answer::Ring => {
-                number += 1;
-                used = add_ring(walk, number, trials, used, &mut out);
-            }
-            Answer::None => {
-                print_front(&out, used);
-                let size = drawer_text::write_end(trials, &mut out);
-                print_front(&out, size);
-                return;
-            }
-            // not met by a walk that was opened: it is fit, and never spent
-            Answer::Refused(r) => {
-                print_front(&out, used);
-                print_refusal(r);
-                return;
-            }
-        }
+        let Answer::Ring = answer else {
+            print_front(&out, used);
+            print_end(stepped);
+            return;
+        };
+        walk = stepped.walk;
+        number += 1;
+        used = add_ring(walk, number, stepped.trials, used, &mut out);
     }
 }
 

@@ -141,17 +141,24 @@ starts-few at-once m = all-over
 starts-few (then h) (and-then q m) = and-then q (starts-few h m)
 
 module _ (n d : ℕ) (limit : List ℕ) where
+  -- no line of kind 1, nor none, costs more than 2 n - 1 trials
+  pub kind-1-prices : Opening rules n d 1 limit → AtMost (2 * n - 1) (listing n d (ofKind 1) limit)
+  unfolding listing ofKind
+  kind-1-prices o = rw (strike-nothing (ofKind 1) (λ r. refl) (all-closed n d limit)) (prices-few n d limit (o .stations) (o .long))
+
+  -- no line of kind 2, nor none, costs more than 4 n - 2
+  pub kind-2-prices : Opening rules n d 2 limit → AtMost (4 * n - 2) (listing n d (ofKind 2) limit)
+  unfolding listing ofKind
+  kind-2-prices o =
+      let m : (2 * n - 1) + (2 * n - 1) ≡ 4 * n - 2 = omega (arith, o .stations) in
+      rw m at (strike-few isLyndon (2 * n - 1) (all-closed n d limit) (prices-few n d limit (o .stations) (o .long)) (lines-spaced n d limit (o .long) (o .binary)) .0)
+
   abbrev taken : ℕ → List ℕ → Listing
   taken kind steps = totals 0 (walkAnswers rules (fresh rules n d kind limit) steps)
 
-  -- no ring of kind 1, nor none, takes more than 2 n - 1 trials
+  -- so much a ring, or none, takes in all
   pub kind-1-trials : Opening rules n d 1 limit → (steps : List ℕ) → AtMost (2 * n - 1) (taken 1 steps)
-  unfolding listing ofKind
-  kind-1-trials o steps = starts-few (totals-listed rules n d 1 limit o steps) (rw (strike-nothing (ofKind 1) (λ r. refl) (all-closed n d limit)) (prices-few n d limit (o .stations) (o .long)))
+  kind-1-trials o steps = starts-few (totals-listed rules n d 1 limit o steps) (kind-1-prices o)
 
-  -- no ring of kind 2, nor none, takes more than 4 n - 2
   pub kind-2-trials : Opening rules n d 2 limit → (steps : List ℕ) → AtMost (4 * n - 2) (taken 2 steps)
-  unfolding listing ofKind
-  kind-2-trials o steps =
-      let m : (2 * n - 1) + (2 * n - 1) ≡ 4 * n - 2 = omega (arith, o .stations) in
-      starts-few (totals-listed rules n d 2 limit o steps) (rw m at (strike-few isLyndon (2 * n - 1) (all-closed n d limit) (prices-few n d limit (o .stations) (o .long)) (lines-spaced n d limit (o .long) (o .binary)) .0))
+  kind-2-trials o steps = starts-few (totals-listed rules n d 2 limit o steps) (kind-2-prices o)

@@ -29,3 +29,4 @@ pub mod Remaining
 pub mod Next
 pub mod Totalled
 pub mod Bound
+pub mod Plenty

@@ -63,7 +63,7 @@ named-left (a ∷ more) {l} h =
     let s = listingStep l a in
     also-append (s .tells .said) (named (listingAnswers (s .left) more)) (ringsOf (listingLeft (s .left) more)) ∙ ap (also (s .tells .said)) (named-left more (step-remaining h a)) ∙ step-named h a
 
-ring≢refused : {r : List ℕ} {c : ℕ} → ring r ≡ refused c → ⊥
+pub ring≢refused : {r : List ℕ} {c : ℕ} → ring r ≡ refused c → ⊥
 ring≢refused e = let z : _≡_ {A = ℕ} 0 1 = cc in omega arith
 
 entry≢over : {s : Said} {p : ℕ} {l : Listing} → entry s p l ≡ over → ⊥

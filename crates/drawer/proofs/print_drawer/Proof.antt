@@ -2,7 +2,7 @@
 use mathlib.Core.Path.{sym}
 use lib.Seq.{length-take-le}
 use borrow.Author.Needs.{needs}
-use Rattle.drawer.proofs.Opened.{open-fit}
+use Rattle.drawer.proofs.Opened.{from-opening}
 use Rattle.drawer.proofs.print_drawer.Statement.{statement}
 use Rattle.drawer.proofs.print_drawer.Tie as tie
 
@@ -10,7 +10,7 @@ slice-aggregate-open : tie.Need-slice-aggregate-open
 slice-aggregate-open c = sym (length-take-le _ _ (c .before .before .before .pre))
 
 print-rings-requires : tie.Need-print-rings-requires
-print-rings-requires c κs = open-fit _ _ _ _ _ (c .before .before .«open» .ensures .0) (c .enum-told .given .1)
+print-rings-requires c κs = from-opening _ _ _ _ _ (c .before .before .«open» .ensures .0) (c .enum-told .given .1)
 
 pub print-drawer-spec : {M : Type 1} → statement M
 print-drawer-spec =
