@@ -137,17 +137,25 @@ def prefix_test():
 # ---- walk_test
 
 
-def allowances(pattern):
-    return (i % 4 if pattern == 4 else pattern or PLENTY for i in count())
+def allowances(name):
+    cycle = {
+        "plenty": [PLENTY],
+        "always 1": [1],
+        "always 2": [2],
+        "always 3": [3],
+        "0, 1, 2, 3 in turn": [0, 1, 2, 3],
+        "0 three times, then plenty": [0, 0, 0, PLENTY],
+    }[name]
+    return (cycle[i % len(cycle)] for i in count())
 
 
-def compare(n, limits, pattern):
+def compare(n, limits, allowed):
     walks = rings = trials = spent = 0
     for d in range(n + 1):
         for kind in 1, 2:
             for limit in limits:
                 walks += 1
-                for answer, made in book_answers(book(n, d, kind, row_of_number(n, limit)), allowances(pattern)):
+                for answer, made in book_answers(book(n, d, kind, row_of_number(n, limit)), allowances(allowed)):
                     rings += isinstance(answer, tuple)
                     spent += answer == 21
                     trials += made
@@ -171,14 +179,14 @@ def show_walk(n, d, kind, digits):
 def walk_test():
     print("limit of ones, plenty allowed")
     for n in range(1, 15):
-        compare(n, [2**n - 1], 0)
+        compare(n, [2**n - 1], "plenty")
     print("every 257th limit, plenty allowed")
     for n in range(9, 15):
-        compare(n, range(0, 2**n, 257), 0)
-    for pattern, name in enumerate(("plenty", "always 1", "always 2", "always 3", "0, 1, 2, 3")):
-        print("all limits, " + name + " allowed" + (" in turn" if pattern == 4 else ""))
+        compare(n, range(0, 2**n, 257), "plenty")
+    for allowed in ("plenty", "always 1", "always 2", "always 3", "0, 1, 2, 3 in turn", "0 three times, then plenty"):
+        print("all limits,", allowed, "allowed")
         for n in range(1, 9):
-            compare(n, range(2**n), pattern)
+            compare(n, range(2**n), allowed)
     for case in calls("walk_test", "show"):
         show_walk(*case)
 

@@ -42,7 +42,7 @@ fn nothing() -> Counts {
     }
 }
 
-// The allowances of a walk: always the same up to 3, the cycle 0, 1, 2, 3, or plenty.
+// The allowances of a walk: always the same from 1 to 3, the cycle 0, 1, 2, 3, plenty after three times 0, or plenty.
 fn allowance_of(pattern: usize, i: usize) -> usize
     ensures { λ r. ⌜ r ≤ 1000 ⌝ }
 {
@@ -51,6 +51,7 @@ fn allowance_of(pattern: usize, i: usize) -> usize
         2 => 2,
         3 => 3,
         4 => i % 4,
+        5 => i % 4 / 3 * 1000,
         _ => 1000,
     }
 }
@@ -250,8 +251,10 @@ fn main() {
     show_limits(2);
     io::write_all(1, b"all limits, always 3 allowed\n");
     show_limits(3);
-    io::write_all(1, b"all limits, 0, 1, 2, 3 allowed in turn\n");
+    io::write_all(1, b"all limits, 0, 1, 2, 3 in turn allowed\n");
     show_limits(4);
+    io::write_all(1, b"all limits, 0 three times, then plenty allowed\n");
+    show_limits(5);
     shown::show_walks();
     shown::show_refusals();
 }
