@@ -10,8 +10,10 @@ use lib.Dec.{leb}
 use borrow.Author.Tests.{le-leb, leb-true}
 use Rattle.drawer_text.proofs.Filling.{ring-length}
 use Rattle.drawer_text.specs.Lines.{countOf, ringLine, written}
+use Rattle.necklace.specs.Class.{necklacePeriod}
 use Rattle.text.proofs.Digits.{decimal-short}
 use Rattle.text.specs.Buffers.{placed}
+use Rattle.words.specs.Rotation.{isNecklace, period}
 
 -- numbers of 64 bits and a row of up to 64 symbols
 pub line-short : (number : ℕ) (row : List ℕ) (period trials : ℕ) → length row ≤ 64 → number < 18446744073709551616 → period < 18446744073709551616 → trials < 18446744073709551616 → length (ringLine number row period trials) ≤ 128
@@ -42,3 +44,8 @@ module _ (u : ℕ) (o line : List ℕ) (h : u + length line ≤ length o) where
   pub added : (part : List ℕ) → part ≡ written line (take (length o - u) (drop u o)) → take u o ++ (part ++ drop (length o - u) (drop u o)) ≡ placed o u line
   added part e =
       rw (e, behind, nothing, le-leb (length line) (length (drop u o)) room, drop-drop, append-nil) (sym (append-assoc (take u o) line (drop (u + length line) o)))
+
+-- what the one pass over a necklace gives
+pub necklace-period-is : (row : List ℕ) → isNecklace row ≡ true → necklacePeriod row ≡ period row
+unfolding necklacePeriod
+necklace-period-is row e = rw e

@@ -13,12 +13,19 @@ use Rattle.drawer_text.specs.declared.Request.the-variants.{Drawer, Refused}
 use Rattle.refusal.specs.Verdicts.{Verdict, accepted, refused}
 use Rattle.drawer.specs.Printed.{FromOpening}
 use Rattle.walk.proofs.Demand.{accepted-opening}
+use Rattle.walk.proofs.FitSteps.{is-necklace}
+use Rattle.walk.proofs.GivenRing.{ring-member}
+use Rattle.walk.proofs.Good.{Fit}
 use Rattle.walk.proofs.Plenty.{Underway, opened-underway}
-use Rattle.walk.specs.Moves.{rules}
+use Rattle.walk.specs.Moves.{rowOf, rules}
 use Rattle.walk.specs.Opening.{openAnswer, openVerdict}
+use Rattle.walk.specs.Step.{stepOf}
+use Rattle.walk.specs.declared.Answer.the-variants.{Ring}
 use Rattle.walk.specs.declared.OpenAnswer.the-variants.{NotOpen, Open}
 use Rattle.walk.specs.declared.Opened.{Opened}
+use Rattle.walk.specs.declared.Stepped.{Stepped}
 use Rattle.walk.specs.declared.Walk.{Walk}
+use Rattle.words.specs.Rotation.{isNecklace}
 
 pub from-opening : (n d kind : ℕ) (limit : List ℕ) (o : Opened) → o ≡ openAnswer (openVerdict n d kind limit) rules n d kind limit → o .answer ≡ Open → FromOpening (o .walk)
 from-opening n d kind limit o e a = go (openVerdict n d kind limit) refl
@@ -48,3 +55,7 @@ limit-fits r (asked n d kind limit) room e = go (leb (length limit) room) refl
     go true f = rw (e, f) (leb-true (length limit) room f)
     go false f = rw (e, f) (omega arith)
 limit-fits r (faulty line) room e = rw e (omega arith)
+
+-- a ring that a step gives is a necklace
+pub ring-necklace : (w : Walk) (a : ℕ) (r : Stepped) → r ≡ stepOf rules w a → r .answer ≡ Ring → Fit rules (r .walk) → isNecklace (rowOf (r .walk)) ≡ true
+ring-necklace w a r e f g = is-necklace (r .walk .d) (rowOf (r .walk)) (rw e (ring-member rules w a (rw e at f) (rw e at g)))

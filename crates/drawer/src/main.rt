@@ -8,7 +8,10 @@ use walk::Walk;
 ghost use mathlib.Core.Path.{_≡_};
 ghost use Prim.Native.Nat.{_+_, _≤_};
 ghost use lib.ListN.{length};
+ghost use mathlib.Core.Bool.{true};
 ghost use Rattle.text.specs.Buffers.{placed};
+ghost use Rattle.words.specs.Rotation.{isNecklace};
+ghost use Rattle.walk.specs.Moves.{rowOf};
 ghost use Rattle.walk.specs.declared.Answer.the-variants.{None};
 ghost use Rattle.drawer.specs.Printed.{lineOf, FromOpening};
 
@@ -57,7 +60,7 @@ fn kind_byte(kind: usize) -> u8 {
 
 // Puts the line of the ring that a walk gave behind what is used of a buffer; how much is used then.
 fn add_ring(walk: Walk, number: u64, trials: u64, used: usize, out: &mut [u8]) -> usize
-    requires { ⌜ (1 ≤ walk .n) × (walk .n ≤ 64) × (used + 128 ≤ length (now out)) ⌝ }
+    requires { ⌜ (1 ≤ walk .n) × (walk .n ≤ 64) × (isNecklace (rowOf walk) ≡ true) × (used + 128 ≤ length (now out)) ⌝ }
     ensures { λ r. ⌜ (r ≡ used + length (lineOf walk number trials)) × (r ≤ used + 128) × (now (out .exit) ≡ placed (now (out .entry)) used (lineOf walk number trials)) ⌝ }
 {
     let n = walk.n;

@@ -30,3 +30,4 @@ pub mod Next
 pub mod Totalled
 pub mod Bound
 pub mod Plenty
+pub mod GivenRing

@@ -8,6 +8,7 @@ use borrow.Author.Tests.{le-ltb}
 use Rattle.density.specs.Necklaces.{isKind, ofKind}
 use Rattle.walk.proofs.Bound.{kind-1-prices, kind-2-prices}
 use Rattle.walk.proofs.Demand.{Opening, fresh-fit, fresh-stands}
+use Rattle.walk.proofs.GivenRing.{none≢ring}
 use Rattle.walk.proofs.Good.{Fit}
 use Rattle.walk.proofs.Named.{Closed, last, line, listing-closed, refused≢none, ring≢none}
 use Rattle.walk.proofs.Remaining.{ring≢refused}
@@ -43,9 +44,6 @@ pub record Underway (R : Rules) (b : ℕ) (w : Walk) : Type 0 where
 pub data Answered (R : Rules) (b : ℕ) (r : Stepped) : Type 0 where
   ring-given : r .answer ≡ Ring → Underway R b (r .walk) → Answered R b r
   none-said : r .answer ≡ None → Answered R b r
-
-none≢ring : None ≡ Ring → ⊥
-none≢ring e = let z : _≡_ {A = ℕ} 0 1 = cc in omega arith
 
 pub after-ring : {R : Rules} {b : ℕ} {r : Stepped} → Answered R b r → r .answer ≡ Ring → Underway R b (r .walk)
 after-ring (ring-given e u) f = u

@@ -7,7 +7,7 @@ use native.Mathlib.Omega.{arith}
 use lib.ListN.{length}
 use borrow.Author.Needs.{needs}
 use Rattle.drawer.proofs.Adding.{count-room}
-use Rattle.drawer.proofs.Opened.{opened-so}
+use Rattle.drawer.proofs.Opened.{opened-so, ring-necklace}
 use Rattle.drawer_text.specs.Lines.{header}
 use Rattle.walk.proofs.Good.{fit-sound}
 use Rattle.walk.proofs.Plenty.{Answered, Underway, after-ring, else-none, plenty}
@@ -52,9 +52,11 @@ print-end-requires c κs =
 
 add-ring-requires : tie.Need-add-ring-requires Inv-loop μ-loop
 add-ring-requires c κs =
-    let u = after-ring (answered (c .before .before .before .before)) (c .before .before .enum-told .given .1) in
+    let step = c .before .before .before .before in
+    let ring = c .before .before .enum-told .given .1 in
+    let u = after-ring (answered step) ring in
     let s = fit-sound (u .fits) in
-    (s .some, s .most, omega (arith, c .before .before .before .before .before .if1 .left, c .before .before .before .before .before .before .before .before .before .loop .inv .long))
+    (s .some, s .most, ring-necklace _ _ _ (step .step .ensures) ring (u .fits), omega (arith, step .before .if1 .left, step .before .before .before .before .before .loop .inv .long))
 
 loop-again : tie.Need-loop-again Inv-loop μ-loop
 loop-again c =
