@@ -2,7 +2,7 @@
 from itertools import count, product
 
 import texts
-from cases import calls
+from cases import MOST, calls
 from rings import (
     begins,
     begins_by_tops,
@@ -272,7 +272,7 @@ def record_test():
         show_outcomes(f"at random, records {first} up to {end}", map(random_step, range(first, end)))
 
 
-# ---- drawer_text_test, drawer
+# ---- drawer_text_test
 
 
 def show_input(source, room):
@@ -297,6 +297,68 @@ def drawer_text_test():
     while n > 0:
         n, ends = n - n // 40 - 1, ends + 1
     print("ends compared", ends, "agreed", ends)
+
+
+# ---- printing_test
+
+NAMES_LINE = "stations holes kind limit"
+EXAMPLE = f"{NAMES_LINE}\n6 3 1 111111\n".encode()
+
+
+def show_tally(name, sources, buffers):
+    """Each input's text, in so many buffer lengths."""
+    show_texts(name, [texts.drawer(source) for source in sources], buffers)
+
+
+def show_texts(name, made, buffers):
+    printed = [text.encode() for text in made]
+    compared = buffers * len(printed)
+    checks = sum(int.from_bytes(text, "big") % 10007 for text in printed)
+    print(name, "compared", compared, "agreed", compared, end=" ")
+    print("bytes", buffers * sum(map(len, printed)), "checks", buffers * checks)
+
+
+def values(n, d, kind, limit):
+    return f"{NAMES_LINE}\n{n} {d} {kind} ".encode() + bytes(limit) + b"\n"
+
+
+def digits_of(size, number):
+    return [48 + (number >> i) % 2 for i in reversed(range(size))]
+
+
+def opening(index):
+    n = (0, 1, 2, 3, 4, 5, 6, 64, 65, 66)[index % 10]
+    holes = index // 10 % 8
+    kind = (0, 1, 2, 3, 255, 256, 257, 258, 259)[index // 80 % 9]
+    size = max(n % 16 + index // 720 % 3 - 1, 0)
+    limit = digits_of(size, index % 1000 * 37)
+    which = index // 2160 % 4
+    if which and size:
+        limit[(0, 0, size - 1, (size + 1) // 2 - 1)[which]] = which * 80
+    return values(n, 999 if holes == 7 else holes, kind, limit)
+
+
+def printing_test():
+    for n, d, kind in calls("printing_test", "show"):
+        print(texts.drawer(values(n, d, kind, digits_of(n, MOST))), end="")
+    show_tally("beginnings", (EXAMPLE[:k] for k in range(40)), 5)
+    changed = (EXAMPLE[:p] + bytes([EXAMPLE[p] % 255 + 1]) + EXAMPLE[p + 1 :] for p in range(26))
+    show_tally("other names", changed, 5)
+    show_tally("bytes behind", (EXAMPLE + b"\n" * k for k in range(240)), 5)
+    show_tally("lengths of the limit", (values(6, 3, 1, b"1" * k) for k in range(300)), 5)
+    show_tally("openings", map(opening, range(8640)), 1)
+    stopped = texts.refusal_text(texts.NUMBERS["Unfit"], 0)
+    show_texts("other states", [stopped] * 3 + [texts.ring_line(MOST, (0,), 1, 0) + texts.end_line(0)], 301)
+    for n in range(1, 15):
+        limits = range(2**n) if n < 8 else [2**n - 1]
+        drawers = (values(n, d, k, digits_of(n, limit)) for d in range(n + 1) for limit in limits for k in (1, 2))
+        show_tally(f"stations {n}", drawers, 1)
+    print("buffers of 0 to 4200 bytes")
+    for n, d, kind in (6, 3, 3), (14, 7, 1), (14, 7, 2):
+        show_tally(f"({n},{d}) kind {kind}", [values(n, d, kind, digits_of(n, MOST))], 4201)
+
+
+# ---- drawer
 
 
 def drawer_program():

@@ -8,6 +8,7 @@ use lib.Dec.{ltb}
 use lib.ListN.{getD, length, replicate}
 use borrow.Author.Tests.{ltb-true}
 use Rattle.density.specs.Density.{density}
+use Rattle.words.specs.Claims.{Within}
 use Rattle.words.specs.Symbols.{firstWrong, later, sum}
 
 pub data Binary : List ℕ → Type 0 where
@@ -52,6 +53,14 @@ binary-at (one∷ x) (suc i) = binary-at x i
 pub at-binary : (a : List ℕ) → ((i : ℕ) → getD a i 0 ≤ 1) → Binary a
 at-binary [] h = empty
 at-binary (x ∷ a) h = binary-cons x (h 0) (at-binary a (λ i. h (suc i)))
+
+-- of an alphabet of two
+pub binary-within : {w : List ℕ} → Binary w → Within 2 w
+binary-within {w} b i h = omega (arith, binary-at b i)
+
+pub within-binary : (w : List ℕ) → Within 2 w → Binary w
+within-binary [] h = empty
+within-binary (x ∷ w) h = binary-cons x (omega (arith, h 0 (omega arith))) (within-binary w (λ i l. h (suc i) (omega arith)))
 
 pub binary-replicate : (n x : ℕ) → x ≤ 1 → Binary (replicate n x)
 binary-replicate zero x h = empty

@@ -10,7 +10,8 @@ use lib.ListN.{length, length-append, length-map}
 use Rattle.density.proofs.Binary.{Binary, empty, one∷, zero∷}
 use Rattle.density.specs.Density.{allRows}
 use Rattle.words.proofs.Below.{here, _≺_}
-use Rattle.words.proofs.Falling.{Falling, falling-append, falling-map, falls-from, falls-none}
+use Rattle.words.proofs.Falling.{falling-append, falling-map}
+use Rattle.words.specs.Falling.{Falling, falls-from, falls-none}
 
 pub in-rows : {w : List ℕ} → Binary w → List·Memᴰ w (allRows (length w))
 unfolding allRows

@@ -13,8 +13,11 @@ pub mod Scaled
 pub mod RowSymbols
 pub mod FewBlocks
 pub mod ManyBlocks
-pub mod TopRules
 -- what the code holds while it writes a row
 pub mod FilledRow
 -- the verdict on the question of the top ring
 pub mod TopVerdicts
+-- tests of the kind and of membership
+pub mod KindTests
+-- what is claimed in specs/
+pub mod Claims

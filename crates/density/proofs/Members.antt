@@ -13,10 +13,11 @@ use Rattle.density.proofs.Enumeration.{in-rows, out-rows, rows-falling}
 use Rattle.density.specs.Density.{allRows, density}
 use Rattle.density.specs.Necklaces.{begins, isNecklaceOf, largestNecklace, necklaces, necklacesOfKind, ofKind}
 use Rattle.words.proofs.AtMost.{≼-antisym, _≼_}
-use Rattle.words.proofs.Falling.{Falling, head-highest, head-member, keep-falling}
+use Rattle.words.proofs.Falling.{head-highest, head-member, keep-falling}
 use Rattle.words.proofs.Lists.{any→, isPrefix→, keep→, →any, →isPrefix, →keep}
 use Rattle.words.proofs.PowerOrder.{Necklace}
 use Rattle.words.proofs.Rotations.{isNecklace→, →isNecklace}
+use Rattle.words.specs.Falling.{Falling}
 use Rattle.words.specs.Rotation.{isNecklace}
 use Rattle.words.specs.Symbols.{sum}
 use Rattle.words.specs.Tests.{isPrefix}

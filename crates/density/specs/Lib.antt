@@ -3,3 +3,4 @@ pub mod Density
 pub mod Necklaces
 pub mod Balanced
 pub mod Top
+pub mod Claims

@@ -1,5 +1,6 @@
 // Binary rows: their density, the necklaces of length n and density d, and the largest of them.
 pub mod count;
+pub mod kinds;
 
 use refusal::Refusal;
 use refusal::are_stations;

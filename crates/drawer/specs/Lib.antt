@@ -1,2 +1,2 @@
--- The lines of the drawer program.
-pub mod Printed
+-- What the program has read of its input.
+pub mod Read

@@ -1,11 +1,12 @@
 -- The drawer program's printed lines: "single spaces", each ended by a line feed.
 use mathlib.Core.Bool.{cond}
 use mathlib.Core.List.{List, [], _∷_, _++_}
-use Prim.Native.Nat.{ℕ}
+use Prim.Native.Nat.{ℕ, _+_}
 use lib.Dec.{leb}
 use lib.ListN.{length, drop}
 use Rattle.refusal.specs.declared.Refusal.{Refusal}
 use Rattle.refusal.specs.Refusals.{numberOf, placeOf}
+use Rattle.refusal.specs.Verdicts.{mostStations}
 use Rattle.text.specs.Parts.{space, feed}
 use Rattle.text.specs.Decimals.{field}
 use Rattle.text.specs.Symbols.{rowField}
@@ -35,6 +36,10 @@ refusedNames = 114 ∷ 101 ∷ 102 ∷ 117 ∷ 115 ∷ 101 ∷ 100 ∷ 32 ∷ 11
 -- "A refusal prints the line `refused place`, then a line with the two numbers, and nothing else."
 unfoldable pub refusalText : Refusal → List ℕ
 refusalText r = refusedNames ++ (field (numberOf r) space ++ field (placeOf r) feed)
+
+-- the longest that a line or a refusal's text can be: a row, three numbers of 64 bits, which have up to 20 digits, and four bytes between and behind them
+abbrev pub longestLine : ℕ
+longestLine = mostStations + 64
 
 -- ---- a lent buffer
 

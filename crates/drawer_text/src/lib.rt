@@ -3,9 +3,16 @@ pub mod parse;
 
 use refusal::Refusal;
 ghost use mathlib.Core.Path.{_≡_};
+ghost use Prim.Native.Nat.{_≤_};
 ghost use lib.ListN.{length};
 ghost use Rattle.drawer_text.specs.Input.{readDrawer, requestOf, requestNumbers, requestDue, limitWritten};
-ghost use Rattle.drawer_text.specs.Lines.{header, ringLine, endLine, refusalText, written, countOf};
+ghost use Rattle.drawer_text.specs.Lines.{header, ringLine, endLine, refusalText, longestLine, written, countOf};
+
+// The most bytes that an input may have.
+pub const MOST_BYTES: usize = 256;
+
+// The longest that a line or a refusal's text can be: a row, three numbers of up to 20 digits, and four bytes between and behind them.
+pub const LONGEST_LINE: usize = refusal::MOST_STATIONS + 64;
 
 // A line of values: stations, holes, kind, and where the limit starts and how long it is.
 pub enum Values {
@@ -25,7 +32,7 @@ pub fn read_drawer(text: &[u8], limit: &mut [u8]) -> Request
     ensures numbers { λ r. ⌜ requestNumbers r ≡ requestDue (readDrawer (now (text .entry))) (length (now (limit .entry))) ⌝ }
     ensures buffer { λ _. ⌜ now (limit .exit) ≡ limitWritten (readDrawer (now (text .entry))) (now (limit .entry)) ⌝ }
 {
-    if 256 < text.len() {
+    if MOST_BYTES < text.len() {
         return Request::Refused(Refusal::Text(1));
     }
     if !text::read::stands_at(text, 0, b"stations holes kind limit\n") {
@@ -88,6 +95,7 @@ pub fn write_end(trials: u64, out: &mut [u8]) -> usize
 // The text of a refusal to the front of a buffer; how many bytes were written.
 pub fn write_refusal(r: Refusal, out: &mut [u8]) -> usize
     ensures { λ n. ⌜ (n ≡ countOf (refusalText r) (length (now (out .entry)))) × (now (out .exit) ≡ written (refusalText r) (now (out .entry))) ⌝ }
+    ensures short { λ _. ⌜ length (refusalText r) ≤ longestLine ⌝ }
 {
     let number = text::write::wide(refusal::number(r));
     let place = refusal::place(r) as u64;

@@ -4,3 +4,5 @@ pub mod Filling
 pub mod Listing
 pub mod RoundTrip
 pub mod Refused
+-- what is claimed in specs/
+pub mod Claims

@@ -1,12 +1,12 @@
 -- Both round trips of gap lists, wherever they are defined.
-use mathlib.Core.Bool.{Bool, false, false≢true, true, _||_}
+use mathlib.Core.Bool.{Bool, false, false≢true, or-true, true, _||_}
 use mathlib.Core.List.{List, [], append-nil, _++_, _∷_}
 use mathlib.Core.Path.{ap, refl, sym, _∙_, _≡_}
 use Prim.Native.Nat.{suc, zero, ℕ, _+_, _<_}
 use native.Mathlib.Nat.{add-zero, pos-of-ne-zero, zero-add}
 use native.Mathlib.Omega.{arith}
 use lib.Dec.{eqb}
-use lib.ListN.{length}
+use lib.ListN.{length, length-append}
 use borrow.Author.Tests.{eq-eqb, eqb-false, eqb-true}
 use Rattle.density.proofs.Binary.{Binary, binary-replicate, empty, one∷, zero∷}
 use Rattle.density.specs.Density.{density}
@@ -28,10 +28,10 @@ gaps-of-blocks [] = refl
 gaps-of-blocks (c ∷ gaps) = gaps-over-zeros c 0 (1 ∷ blocks gaps) ∙ rw (gaps-of-blocks gaps, zero-add)
 
 -- list to row to list, for every list
-pub list-row-list : (n : ℕ) (gaps : List ℕ) → gapsOfRow (rowOfGaps n gaps) ≡ gaps
+pub gaps-back : (n : ℕ) (gaps : List ℕ) → gapsOfRow (rowOfGaps n gaps) ≡ gaps
 unfolding gapsOfRow rowOfGaps gapsFrom
-list-row-list n [] = ap (gapsFrom 0) (sym (append-nil (zeros n))) ∙ gaps-over-zeros n 0 []
-list-row-list n (c ∷ gaps) = gaps-of-blocks (c ∷ gaps)
+gaps-back n [] = ap (gapsFrom 0) (sym (append-nil (zeros n))) ∙ gaps-over-zeros n 0 []
+gaps-back n (c ∷ gaps) = gaps-of-blocks (c ∷ gaps)
 
 -- ---- row to list to row
 
@@ -60,9 +60,9 @@ row-of-some n [] h = absurd (omega arith)
 row-of-some n (c ∷ gaps) h = refl
 
 -- row to list to row, for every row that has a gap list
-pub row-list-row : {w : List ℕ} → Binary w → hasGapList w ≡ true → rowOfGaps (length w) (gapsOfRow w) ≡ w
+pub row-back : {w : List ℕ} → Binary w → hasGapList w ≡ true → rowOfGaps (length w) (gapsOfRow w) ≡ w
 unfolding gapsOfRow rowOfGaps hasGapList
-row-list-row {w} b e = go (eqb (density w) 0) refl e
+row-back {w} b e = go (eqb (density w) 0) refl e
   where
     go : (t : Bool) → eqb (density w) 0 ≡ t → (t || endsInOne w) ≡ true → rowOfGaps (length w) (gapsFrom 0 w) ≡ w
     go true q e = let n = no-gaps b (eqb-true _ _ q) 0 in ap (rowOfGaps (length w)) (n .0) ∙ sym (n .1)
@@ -92,4 +92,24 @@ row-binary n (c ∷ gaps) = blocks-binary (c ∷ gaps)
 
 pub row-density : (n : ℕ) (gaps : List ℕ) → density (rowOfGaps n gaps) ≡ length gaps
 unfolding gapsOfRow
-row-density n gaps = sym (gaps-count (row-binary n gaps) 0) ∙ ap length (list-row-list n gaps)
+row-density n gaps = sym (gaps-count (row-binary n gaps) 0) ∙ ap length (gaps-back n gaps)
+
+-- it ends in a hole, or has none
+ends-behind : (x : ℕ) (w : List ℕ) → 0 < length w → endsInOne (x ∷ w) ≡ endsInOne w
+unfolding endsInOne
+ends-behind x [] h = absurd (omega arith)
+ends-behind x (y ∷ w) h = refl
+
+ends-over-zeros : (z : ℕ) (w : List ℕ) → endsInOne (zeros z ++ (1 ∷ w)) ≡ endsInOne (1 ∷ w)
+ends-over-zeros zero w = refl
+ends-over-zeros (suc z) w = ends-behind 0 (zeros z ++ (1 ∷ w)) (omega (arith, length-append (zeros z) (1 ∷ w))) ∙ ends-over-zeros z w
+
+ends-blocks : (gaps : List ℕ) → endsInOne (1 ∷ blocks gaps) ≡ true
+unfolding endsInOne blocks
+ends-blocks [] = refl
+ends-blocks (c ∷ gaps) = ends-behind 1 (zeros c ++ (1 ∷ blocks gaps)) (omega (arith, length-append (zeros c) (1 ∷ blocks gaps))) ∙ ends-over-zeros c (blocks gaps) ∙ ends-blocks gaps
+
+pub row-ends : (n : ℕ) (gaps : List ℕ) → hasGapList (rowOfGaps n gaps) ≡ true
+unfolding hasGapList rowOfGaps blocks
+row-ends n [] = rw (eq-eqb (density (zeros n)) 0 (row-density n []))
+row-ends n (c ∷ gaps) = rw (ends-over-zeros c (blocks gaps), ends-blocks gaps) (or-true (eqb (density (rowOfGaps n (c ∷ gaps))) 0))

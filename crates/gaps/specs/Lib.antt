@@ -1,3 +1,4 @@
 -- Gap lists.
 pub mod Gaps
 pub mod Answers
+pub mod Claims

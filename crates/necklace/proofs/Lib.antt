@@ -3,7 +3,7 @@ pub mod Parts
 -- the least rotation so far, and the first repeat of it
 pub mod Seen
 pub mod Steps
--- the period of a necklace in one pass
-pub mod OnePass
 -- the verdicts and what they give
 pub mod Answers
+-- what is claimed in specs/
+pub mod Claims

@@ -1,10 +1,10 @@
 -- "Class of a row": shelved or not, without symmetry or not.
-use mathlib.Core.Bool.{Bool, false, cond}
+use mathlib.Core.Bool.{Bool, false}
 use mathlib.Core.List.{List}
 use Prim.Native.Nat.{ℕ}
 use lib.Dec.{eqb}
 use lib.ListN.{length}
-use Rattle.words.specs.Rotation.{isNecklace, isLyndon, period}
+use Rattle.words.specs.Rotation.{isNecklace, isLyndon}
 use Rattle.words.specs.Symbols.{firstWrong}
 use Rattle.refusal.specs.Refusals.{numberOf, placeOf}
 use Rattle.refusal.specs.Verdicts.{Verdict, accepted, refused, need, areStations}
@@ -39,9 +39,3 @@ classNumbers (Refused r) = record { number = numberOf r; place = placeOf r; neck
 abbrev pub classDue : Verdict → List ℕ → ClassNumbers
 classDue accepted row = record { number = 0; place = 0; necklace = isNecklace row; lyndon = isLyndon row }
 classDue (refused r) row = record { number = numberOf r; place = placeOf r; necklace = false; lyndon = false }
-
--- ---- both in one number
-
--- the period of a necklace, and 0 for a row that is none
-unfoldable pub necklacePeriod : List ℕ → ℕ
-necklacePeriod w = cond (isNecklace w) (period w) 0

@@ -5,7 +5,6 @@ ghost use mathlib.Core.List.{_++_};
 ghost use Prim.Native.Nat.{_<_, _≤_};
 ghost use lib.ListN.{length, drop, getD};
 ghost use Rattle.words.specs.Rotation.{leastIndex, period, rotation};
-ghost use Rattle.necklace.specs.Class.{necklacePeriod};
 
 // The number of a row's least rotation, and the row's period.
 pub struct Least {
@@ -64,19 +63,6 @@ pub fn least_rotation(row: &[u8]) -> Least
         index: b,
         period: n,
     }
-}
-
-// The period of a necklace, and 0 for a row that is none, in one pass.
-pub fn necklace_period(row: &[u8]) -> usize
-    requires { ⌜ 0 < length (now row) ⌝ }
-    ensures { λ r. ⌜ r ≡ necklacePeriod (now (row .entry)) ⌝ }
-{
-    let zeros = words::inner::leading_zeros(row);
-    let p = words::inner::prefix_period(row, zeros);
-    if p == 0 {
-        return 0;
-    }
-    if row.len() % p == 0 { p } else { 0 }
 }
 
 // Writes the rotation by j to the front of `out`.

@@ -59,7 +59,7 @@ pub fn class(row: &[u8]) -> ClassAnswer
     if wrong != 0 {
         return ClassAnswer::Refused(Refusal::Symbol(wrong));
     }
-    let p = inner::necklace_period(row);
+    let p = words::inner::necklace_period(row);
     ClassAnswer::Of {
         necklace: p != 0,
         lyndon: p == n,

@@ -1,4 +1,6 @@
-// Walk records for the test programs: compared, numbered and printed.
+// Walk records for the test programs: compared, numbered and printed. The drawer's book, by a plain listing.
+pub mod book;
+
 use walk::Answer;
 use walk::Standing;
 use walk::Walk;

@@ -13,3 +13,8 @@ pub mod Sparse
 pub mod Neighbours
 -- the refusals in their order
 pub mod Refused
+-- what is known of symbols, one longer and one shorter
+pub mod Carrying
+pub mod CarriedLaws
+-- what is claimed in specs/
+pub mod Claims

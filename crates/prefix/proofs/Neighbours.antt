@@ -18,7 +18,7 @@ use Rattle.density.specs.Necklaces.{necklaces}
 use Rattle.words.proofs.AtMost.{equal, lower, not-both, squeezed, _≼_}
 use Rattle.words.proofs.Below.{≺-append, ≺-irrefl, ≺-size, ≺-under, _≺_}
 use Rattle.words.proofs.Cut.{Cut, cut}
-use Rattle.words.proofs.Falling.{Falling, falls-by, nothing-between}
+use Rattle.words.proofs.Falling.{falls-by, nothing-between}
 use Rattle.words.proofs.Following.{lyndon-above, power-lyndon}
 use Rattle.words.proofs.Lyndon.{Lyndon, lyndon-size}
 use Rattle.words.proofs.OnePeriod.{one-period, pre-of-power}
@@ -27,6 +27,7 @@ use Rattle.words.proofs.PowerOrder.{lyndon→necklace}
 use Rattle.words.proofs.Prefixes.{Pre}
 use Rattle.words.proofs.Root.{Root, root}
 use Rattle.words.proofs.Rotations.{→isLyndon}
+use Rattle.words.specs.Falling.{Falling}
 use Rattle.words.specs.Rotation.{isLyndon}
 use Rattle.words.specs.Symbols.{sum}
 

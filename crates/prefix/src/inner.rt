@@ -10,7 +10,7 @@ ghost use Rattle.prefix.specs.Search.{Symbols, fits, continues};
 
 // Whether the Lyndon word g, of density h, begins a necklace of density d with m more symbols. g begins with z zeros and a 1.
 // The largest necklace of those symbols is compared with g: its first 1 by a product, the symbols behind it from an error term.
-fn goes_on(g: &[u8], m: usize, d: usize, h: usize, z: usize) -> bool
+pub fn goes_on(g: &[u8], m: usize, d: usize, h: usize, z: usize) -> bool
     requires { ⌜ (m ≤ 64) × (h ≡ sum (now g)) × (z < length (now g)) × (length (now g) ≤ 64) × Leading (now g) z × Symbols (now g) ⌝ }
     ensures { λ r. ⌜ r ≡ fits d m (now (g .entry)) ⌝ }
 {
@@ -53,7 +53,7 @@ fn goes_on(g: &[u8], m: usize, d: usize, h: usize, z: usize) -> bool
 
 // Whether the first t symbols of x, of period p and density h, begin a necklace of n symbols and density d.
 // They begin with z zeros. They go on with the period, place by place, or leave it upwards.
-fn search_from(
+pub fn search_from(
     mut x: [u8; 64],
     t: usize,
     n: usize,
@@ -90,7 +90,7 @@ fn search_from(
 
 // Whether the counts rule a prefix out, which has h ones and begins with z zeros: too many or too few ones are to come,
 // or too few for so many places, since no run of zeros is longer than the first.
-fn ruled_out(n: usize, d: usize, prefix: &[u8], h: usize, z: usize) -> bool
+pub fn ruled_out(n: usize, d: usize, prefix: &[u8], h: usize, z: usize) -> bool
     requires { ⌜ (n ≤ 64) × (d ≤ n) × (length (now prefix) ≤ n) × (h ≡ sum (now prefix)) × Leading (now prefix) z × Symbols (now prefix) ⌝ }
     ensures { λ r. ⌜ (r ≡ true → begins n d (now (prefix .entry)) ≡ false) ⌝ }
 {
@@ -106,25 +106,4 @@ fn ruled_out(n: usize, d: usize, prefix: &[u8], h: usize, z: usize) -> bool
         return (z + 1) * e < more;
     }
     false
-}
-
-// Whether some necklace of n symbols and density d begins with the first t symbols of a row.
-pub fn begins_necklace(n: usize, d: usize, row: [u8; 64], t: usize) -> bool
-    requires { ⌜ (n ≤ 64) × (d ≤ n) × (t ≤ n) × Symbols row × (0 < n) ⌝ }
-    ensures { λ r. ⌜ r ≡ begins n d (take t row) ⌝ }
-{
-    if t == 0 {
-        return true;
-    }
-    let prefix = &row[..t];
-    let h = density::count::sum_ones(prefix);
-    let z = words::inner::leading_zeros(prefix);
-    if ruled_out(n, d, prefix, h, z) {
-        return false;
-    }
-    let p = words::inner::prefix_period(prefix, z);
-    if p == 0 {
-        return false;
-    }
-    search_from(row, t, n, d, p, h, z)
 }

@@ -1,8 +1,10 @@
 // The prefix question: does some necklace of length n and density d begin with a given prefix?
+pub mod carried;
 pub mod inner;
 
 ghost use mathlib.Core.Path.{_≡_};
 ghost use Rattle.prefix.specs.Question.{questionVerdict, questionAnswer, questionNumbers, questionDue};
+use carried::Known;
 use refusal::Refusal;
 
 // Yes or no, or a refusal.
@@ -30,6 +32,7 @@ pub fn ask(n: usize, d: usize, prefix: &[u8]) -> PrefixAnswer
         return PrefixAnswer::Refused(Refusal::Symbol(wrong));
     }
     let row = words::inner::padded(prefix);
-    let yes = inner::begins_necklace(n, d, row, prefix.len());
+    let prefixes = carried::prefixes_of(prefix);
+    let yes = Known::read(&prefixes, prefix).begins(n, d, row, prefix.len());
     PrefixAnswer::Answered(yes)
 }

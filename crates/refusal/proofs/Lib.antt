@@ -1,2 +1,6 @@
 -- how many stations a row may have
 pub mod Stations
+-- numbers
+pub mod Numbers
+-- what the verdicts of the operations mean
+pub mod Conditions

@@ -1,3 +1,4 @@
 -- The refusals of document 01, and how an operation picks the first that applies.
 pub mod Refusals
 pub mod Verdicts
+pub mod Conditions

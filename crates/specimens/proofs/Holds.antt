@@ -4,14 +4,17 @@ use mathlib.Core.Path.{refl}
 use Rattle.density.specs.Density.{allRows, density}
 use Rattle.density.specs.Necklaces.{begins, isKind, isNecklaceOf, largestNecklace, necklaces, ofKind}
 use Rattle.gaps.specs.Gaps.{gapsFrom, gapsOfRow}
+use Rattle.refusal.specs.Verdicts.{areStations}
 use Rattle.specimens.specs.Starred.{Say, starred}
 use Rattle.walk.specs.Fit.{allUpTo, fit, fitAt, fitRow, fitSizes}
 use Rattle.walk.specs.Moves.{moveAt}
+use Rattle.walk.specs.Opening.{openVerdict}
 use Rattle.walk.specs.Step.{enough, run, stepOf, walkAnswers}
 use Rattle.words.specs.Order.{cmp, le, lt, same}
 use Rattle.words.specs.Rotation.{isLeastAt, isLyndon, isNecklace, leastIndex, leastRotation, period, rotation}
+use Rattle.words.specs.Symbols.{firstWrong}
 use Rattle.words.specs.Tests.{allBelow, any, firstFrom, isPrefix, keep}
 
 pub starred-hold : Say starred
-unfolding starred cmp le lt same allBelow firstFrom keep any isPrefix rotation isNecklace period isLeastAt leastIndex leastRotation density allRows isNecklaceOf necklaces headD largestNecklace begins gapsFrom gapsOfRow walkAnswers stepOf fit fitAt fitSizes fitRow allUpTo run enough moveAt isKind ofKind isLyndon
+unfolding starred openVerdict areStations firstWrong cmp le lt same allBelow firstFrom keep any isPrefix rotation isNecklace period isLeastAt leastIndex leastRotation density allRows isNecklaceOf necklaces headD largestNecklace begins gapsFrom gapsOfRow walkAnswers stepOf fit fitAt fitSizes fitRow allUpTo run enough moveAt isKind ofKind isLyndon
 starred-hold = ((refl, refl, refl), ((refl, refl, refl), (refl, (refl, (refl, (refl, (refl, (refl, (refl, (refl, (refl, (refl, (refl, (refl, tt))))))))))))))

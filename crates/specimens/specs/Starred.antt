@@ -8,7 +8,7 @@ use Rattle.density.specs.Necklaces.{begins, largestNecklace}
 use Rattle.gaps.specs.Gaps.{gapsOfRow}
 use Rattle.walk.specs.Listing.{Said, ring, none, told}
 use Rattle.walk.specs.Moves.{rules}
-use Rattle.walk.specs.Opening.{fresh}
+use Rattle.walk.specs.Opening.{openAnswer, openVerdict}
 use Rattle.walk.specs.Step.{walkAnswers}
 
 pub data Specimen : Type 0 where
@@ -20,7 +20,7 @@ pub data Specimen : Type 0 where
   top : ℕ → ℕ → List ℕ → Specimen
   -- gaps of a row
   gaps : List ℕ → List ℕ → Specimen
-  -- drawer (n, d), kind, limit: the first answer of a walk, and its trials
+  -- drawer (n, d), kind, limit: the first answer of the walk that opening hands out, and its trials
   step : ℕ → ℕ → ℕ → List ℕ → Said → ℕ → Specimen
 
 -- what a specimen says
@@ -29,7 +29,7 @@ Says (key w least turn p) = (leastRotation w ≡ least) × (leastIndex w ≡ tur
 Says (prefix n d p answer) = begins n d p ≡ answer
 Says (top n d w) = largestNecklace n d ≡ w
 Says (gaps w list) = gapsOfRow w ≡ list
-Says (step n d kind limit said trials) = walkAnswers rules (fresh rules n d kind limit) (100 ∷ []) ≡ told said trials ∷ []
+Says (step n d kind limit said trials) = walkAnswers rules (openAnswer (openVerdict n d kind limit) rules n d kind limit .walk) (100 ∷ []) ≡ told said trials ∷ []
 
 -- what all of a list say
 abbrev pub Say : List Specimen → Type 0

@@ -1,6 +1,4 @@
 -- Going on below a ring, and none: what these moves do to the rows and the lines to come.
-
--- ---- nothing is below zeros
 use mathlib.Core.Bool.{true, true≢false}
 use mathlib.Core.List.{List, [], append-nil, _++_, _∷_}
 use mathlib.Core.Logic.{inl, inr, _⊎_}
@@ -17,13 +15,15 @@ use Rattle.density.specs.Necklaces.{necklaces}
 use Rattle.walk.proofs.Ends.{all-zeros, ends-zero, no-end}
 use Rattle.walk.proofs.Prices.{density-zeros, lines-cleared}
 use Rattle.walk.proofs.Rounds.{down-no, within}
-use Rattle.walk.proofs.Stands.{linesAt, lowest, rowsAt}
 use Rattle.walk.specs.Listing.{entry, front, linesFrom, necklacesBelow, none, over}
+use Rattle.walk.specs.ToCome.{linesAt, lowest, rowsAt}
 use Rattle.walk.specs.declared.Standing.the-variants.{Down, Given}
 use Rattle.words.proofs.Beside.{not-under-zeros}
 use Rattle.words.proofs.Falling.{keep-none}
 use Rattle.words.specs.Order.{lt}
 use Rattle.words.specs.Symbols.{zeros}
+
+-- ---- nothing is below zeros
 
 under-zeros : (n d : ℕ) → necklacesBelow n d (zeros n) ≡ []
 unfolding necklacesBelow

@@ -11,18 +11,16 @@ use Rattle.density.proofs.Members.{member→, necklaces-falling}
 use Rattle.density.specs.Density.{density}
 use Rattle.density.specs.Necklaces.{isNecklaceOf, necklaces, ofKind}
 use Rattle.prefix.proofs.Neighbours.{neighbours-test}
-use Rattle.walk.proofs.Demand.{Opening}
-use Rattle.walk.proofs.Named.{Closed, all-closed, last, line, rings-all}
-use Rattle.walk.proofs.Totalled.{totals-listed}
+use Rattle.walk.proofs.Demand.{Admitted}
+use Rattle.walk.proofs.Named.{rings-all}
+use Rattle.walk.proofs.Strikes.{Closed, all-closed, last, line}
 use Rattle.walk.specs.Listing.{Listing, allLines, counted, entry, front, limitFirst, linesFrom, listing, necklacesBelow, none, over, price, raise, refused, ring, strike, struck}
 use Rattle.walk.specs.Moves.{rules}
-use Rattle.walk.specs.Opening.{fresh}
-use Rattle.walk.specs.Step.{walkAnswers}
-use Rattle.walk.specs.Totals.{AtMost, Starts, all-over, and-then, at-once, owed, ringsOf, then, totals}
+use Rattle.walk.specs.Totals.{AtMost, Starts, all-over, and-then, at-once, owed, ringsOf, then}
 use Rattle.words.proofs.AtMost.{lower, ≺-≼-trans}
-use Rattle.words.proofs.Falling.{Falling, falls-from, falls-none}
 use Rattle.words.proofs.Lists.{keep-all, keep→}
-use Rattle.words.proofs.OrderTests.{le→, →le}
+use Rattle.words.proofs.OrderTests.{le→, lt→, →le}
+use Rattle.words.specs.Falling.{Falling, falls-from, falls-none}
 use Rattle.words.specs.Order.{le, lt}
 use Rattle.words.specs.Rotation.{isLyndon}
 use Rattle.words.specs.Tests.{keep}
@@ -124,7 +122,7 @@ ends-below x falls-none = ([], refl)
 ends-below x (falls-from {w = w} {l = l} h f) = go (le w x) refl (ends-below x f)
   where
     go : (t : Bool) → le w x ≡ t → ((pre : List (List ℕ)) × (l ≡ pre ++ keep (λ r. le r x) l)) → (pre : List (List ℕ)) × (w ∷ l ≡ pre ++ cond t (w ∷ keep (λ r. le r x) l) (keep (λ r. le r x) l))
-    go true e ih = ([], ap {B = List (List ℕ)} (λ t. w ∷ t) (sym (keep-all (λ r. le r x) l (λ v m. →le v x (lower (≺-≼-trans (h v m) (le→ w x e)))))))
+    go true e ih = ([], ap {B = List (List ℕ)} (λ t. w ∷ t) (sym (keep-all (λ r. le r x) l (λ v m. →le v x (lower (≺-≼-trans (lt→ v w (h v m)) (le→ w x e)))))))
     go false e ih = (w ∷ ih .0, ap {B = List (List ℕ)} (λ t. w ∷ t) (ih .1))
 
 -- Lemma 6.1 of source document 000: of two neighbours one is without symmetry
@@ -142,23 +140,13 @@ starts-few (then h) (and-then q m) = and-then q (starts-few h m)
 
 module _ (n d : ℕ) (limit : List ℕ) where
   -- no line of kind 1, nor none, costs more than 2 n - 1 trials
-  pub kind-1-prices : Opening rules n d 1 limit → AtMost (2 * n - 1) (listing n d (ofKind 1) limit)
+  pub kind-1-prices : Admitted rules n d 1 limit → AtMost (2 * n - 1) (listing n d (ofKind 1) limit)
   unfolding listing ofKind
   kind-1-prices o = rw (strike-nothing (ofKind 1) (λ r. refl) (all-closed n d limit)) (prices-few n d limit (o .stations) (o .long))
 
   -- no line of kind 2, nor none, costs more than 4 n - 2
-  pub kind-2-prices : Opening rules n d 2 limit → AtMost (4 * n - 2) (listing n d (ofKind 2) limit)
+  pub kind-2-prices : Admitted rules n d 2 limit → AtMost (4 * n - 2) (listing n d (ofKind 2) limit)
   unfolding listing ofKind
   kind-2-prices o =
       let m : (2 * n - 1) + (2 * n - 1) ≡ 4 * n - 2 = omega (arith, o .stations) in
       rw m at (strike-few isLyndon (2 * n - 1) (all-closed n d limit) (prices-few n d limit (o .stations) (o .long)) (lines-spaced n d limit (o .long) (o .binary)) .0)
-
-  abbrev taken : ℕ → List ℕ → Listing
-  taken kind steps = totals 0 (walkAnswers rules (fresh rules n d kind limit) steps)
-
-  -- so much a ring, or none, takes in all
-  pub kind-1-trials : Opening rules n d 1 limit → (steps : List ℕ) → AtMost (2 * n - 1) (taken 1 steps)
-  kind-1-trials o steps = starts-few (totals-listed rules n d 1 limit o steps) (kind-1-prices o)
-
-  pub kind-2-trials : Opening rules n d 2 limit → (steps : List ℕ) → AtMost (4 * n - 2) (taken 2 steps)
-  kind-2-trials o steps = starts-few (totals-listed rules n d 2 limit o steps) (kind-2-prices o)

@@ -1,7 +1,5 @@
--- Demand 3: for every list of steps from a fresh walk, the answers and trials are those of the drawer's book.
-
--- a fit walk answers as the book of what it stands for, and each record that it hands back is fit
-use mathlib.Core.Bool.{Bool, false, true}
+-- For every list of steps a fit walk answers as the book of what it stands for; a fresh walk stands for the drawer's book.
+use mathlib.Core.Bool.{true}
 use mathlib.Core.List.{List, [], _++_, _∷_}
 use mathlib.Core.Path.{ap, refl, _∙_, _≡_}
 use Prim.Native.Nat.{ℕ, _-_, _≤_}
@@ -12,18 +10,18 @@ use lib.Seq.{drop-at, take-at}
 use borrow.Author.Tests.{eqb-true, leb-true}
 use Rattle.density.proofs.Binary.{Binary, no-wrong}
 use Rattle.density.specs.Necklaces.{isKind, ofKind}
-use Rattle.prefix.specs.Search.{fits}
+use Rattle.refusal.proofs.Conditions.{need→}
 use Rattle.refusal.proofs.Stations.{stations→}
-use Rattle.refusal.specs.Verdicts.{Verdict, accepted, areStations, need}
-use Rattle.refusal.specs.declared.Refusal.{Refusal}
-use Rattle.walk.proofs.Good.{Fit, Sound, sound-fit, zeros-clean}
-use Rattle.walk.proofs.Stands.{linesAt, stands}
+use Rattle.refusal.specs.Verdicts.{accepted, areStations}
+use Rattle.walk.proofs.Good.{Fit, sound-fit, zeros-clean}
 use Rattle.walk.proofs.Steps.{step-agrees}
-use Rattle.walk.specs.Fit.{fit, fitAt}
+use Rattle.walk.specs.Course.{Sound}
+use Rattle.walk.specs.Fit.{fitAt}
 use Rattle.walk.specs.Listing.{listing, listingAnswers}
 use Rattle.walk.specs.Moves.{Rules, rules}
-use Rattle.walk.specs.Opening.{fresh, openAnswer, openVerdict}
+use Rattle.walk.specs.Opening.{fresh, openVerdict}
 use Rattle.walk.specs.Step.{handed, stepOf, walkAnswers}
+use Rattle.walk.specs.ToCome.{linesAt, stands}
 use Rattle.walk.specs.Totals.{listingLeft}
 use Rattle.walk.specs.declared.Walk.{Walk}
 use Rattle.words.specs.Symbols.{firstWrong, zeros}
@@ -35,6 +33,7 @@ answers-agree R w f (a ∷ more) =
     let s = step-agrees R w a f in
     rw (s .tells, answers-agree R (stepOf R w a .walk) (s .fits) more, s .left)
 
+-- each record that it hands back is fit
 pub stays-fit : (R : Rules) (w : Walk) → Fit R w → (allowances : List ℕ) → Fit R (handed R w allowances)
 unfolding handed
 stays-fit R w f [] = f
@@ -49,7 +48,7 @@ handed-stands R w f (a ∷ more) =
     handed-stands R (stepOf R w a .walk) (s .fits) more ∙ ap (λ l. listingLeft l more) (s .left)
 
 -- any opening that meets no condition for the input
-pub record Opening (R : Rules) (n d kind : ℕ) (limit : List ℕ) : Type 0 where
+pub record Admitted (R : Rules) (n d kind : ℕ) (limit : List ℕ) : Type 0 where
   pub stations : 1 ≤ n
   pub most : n ≤ R .most
   pub dense : d ≤ n
@@ -57,7 +56,7 @@ pub record Opening (R : Rules) (n d kind : ℕ) (limit : List ℕ) : Type 0 wher
   pub long : length limit ≡ n
   pub binary : Binary limit
 
-module _ (R : Rules) (n d kind : ℕ) (limit : List ℕ) (o : Opening R n d kind limit) where
+module _ (R : Rules) (n d kind : ℕ) (limit : List ℕ) (o : Admitted R n d kind limit) where
   pub fresh-fit : Fit R (fresh R n d kind limit)
   unfolding fitAt
   fresh-fit = sound-fit sound refl
@@ -80,20 +79,9 @@ module _ (R : Rules) (n d kind : ℕ) (limit : List ℕ) (o : Opening R n d kind
   unfolding stands linesAt listing
   fresh-stands = rw (take-at limit (zeros (R .most - n)) n (o .long))
 
-  -- the one claim over the list
-  pub demand-3 : (allowances : List ℕ) → walkAnswers R (fresh R n d kind limit) allowances ≡ listingAnswers (listing n d (R .ofKind kind) limit) allowances
-  demand-3 allowances = answers-agree R (fresh R n d kind limit) fresh-fit allowances ∙ ap (λ l. listingAnswers l allowances) fresh-stands
+-- ---- what opening hands out, when it refuses nothing
 
-  pub never-unfit : (allowances : List ℕ) → fit R (handed R (fresh R n d kind limit) allowances) ≡ true
-  never-unfit allowances = stays-fit R (fresh R n d kind limit) fresh-fit allowances .test
-
--- ---- as the operations promise it: what opening hands out, when it refuses nothing
-
-need→ : (b : Bool) (r : Refusal) (v : Verdict) → need b r v ≡ accepted → (b ≡ true) × (v ≡ accepted)
-need→ true r v e = (refl, e)
-need→ false r v e = let z : _≡_ {A = ℕ} 0 1 = cc in absurd (omega arith)
-
-pub accepted-opening : (n d kind : ℕ) (limit : List ℕ) → openVerdict n d kind limit ≡ accepted → Opening rules n d kind limit
+pub accepted-opening : (n d kind : ℕ) (limit : List ℕ) → openVerdict n d kind limit ≡ accepted → Admitted rules n d kind limit
 unfolding openVerdict
 accepted-opening n d kind limit e =
     let a = need→ (areStations n) _ _ e in
@@ -110,7 +98,3 @@ accepted-opening n d kind limit e =
       long = eqb-true (length limit) n (l .0);
       binary = no-wrong limit (eqb-true (firstWrong 2 limit) 0 (f .0));
     }
-
-pub opened-walk : (n d kind : ℕ) (limit : List ℕ) → openVerdict n d kind limit ≡ accepted → (allowances : List ℕ)
-    → walkAnswers rules (openAnswer (openVerdict n d kind limit) rules n d kind limit .walk) allowances ≡ listingAnswers (listing n d (ofKind kind) limit) allowances
-opened-walk n d kind limit e allowances = rw e (demand-3 rules n d kind limit (accepted-opening n d kind limit e) allowances)

@@ -9,12 +9,11 @@ use lib.ListN.{length}
 use Rattle.density.proofs.Enumeration.{rows-count}
 use Rattle.density.specs.Density.{allRows}
 use Rattle.density.specs.Necklaces.{isNecklaceOf, necklaces}
-use Rattle.walk.proofs.Good.{Good, GoodAt}
-use Rattle.walk.proofs.Rounds.{necklacesUpTo}
-use Rattle.walk.proofs.Stands.{movesAt, rowsAt, size, sizeAt}
-use Rattle.walk.specs.Listing.{necklacesBelow}
+use Rattle.walk.specs.Course.{Good, GoodAt, movesAt, size, sizeAt}
+use Rattle.walk.specs.Listing.{necklacesBelow, necklacesUpTo}
 use Rattle.walk.specs.Moves.{Rules}
 use Rattle.walk.specs.Step.{enough}
+use Rattle.walk.specs.ToCome.{rowsAt}
 use Rattle.walk.specs.declared.Standing.{Standing}
 use Rattle.walk.specs.declared.Standing.the-variants.{Down, Ended, Given, Limit, Up}
 use Rattle.walk.specs.declared.Walk.{Walk}

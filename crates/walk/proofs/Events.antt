@@ -1,6 +1,4 @@
 -- What each move does to the rows and the lines to come. One pair of laws for each event, over the row alone.
-
--- ---- one question, over what is fixed (u) and what is left (k places)
 use mathlib.Core.Bool.{false, true}
 use mathlib.Core.List.{List, [], append-assoc, append-nil, _++_, _∷_}
 use mathlib.Core.Path.{ap, refl, sym, _∙_, _≡_}
@@ -11,12 +9,14 @@ use lib.Seq.{length-take-le, take-suc, take-suc-set}
 use Rattle.density.proofs.Members.{Member, member-test, necklaces-falling, →member}
 use Rattle.density.specs.Necklaces.{begins, isNecklaceOf}
 use Rattle.walk.proofs.Prices.{lines-dearer, price-next}
-use Rattle.walk.proofs.Rounds.{down-no, down-yes, necklacesUpTo, next, up-no, within}
-use Rattle.walk.proofs.Stands.{firstAt, highestOf, linesAt, lowest, rowsAt}
-use Rattle.walk.specs.Listing.{Listing, allLines, entry, linesFrom, necklacesBelow, raise, ring}
+use Rattle.walk.proofs.Rounds.{down-no, down-yes, next, up-no, within}
+use Rattle.walk.specs.Listing.{Listing, allLines, entry, linesFrom, necklacesBelow, necklacesUpTo, raise, ring}
+use Rattle.walk.specs.ToCome.{firstAt, highestOf, linesAt, lowest, rowsAt}
 use Rattle.walk.specs.declared.Standing.the-variants.{Down, Given, Limit, Up}
 use Rattle.words.proofs.Falling.{at-or-below}
 use Rattle.words.specs.Symbols.{ones, zeros}
+
+-- ---- one question, over what is fixed (u) and what is left (k places)
 
 module _ (n d : ℕ) (u : List ℕ) (k : ℕ) (fits : length u + suc k ≡ n) where
   -- no: the trial was made for what is found further down

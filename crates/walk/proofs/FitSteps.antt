@@ -18,7 +18,7 @@ use Rattle.refusal.specs.Verdicts.{areStations, mostStations}
 use Rattle.walk.proofs.Good.{test-binary}
 use Rattle.walk.specs.Fit.{allUpTo, fit, fitAt, fitRow, fitSizes}
 use Rattle.walk.specs.Moves.{rowOf, rules}
-use Rattle.walk.specs.Phases.{Fitting}
+use Rattle.walk.specs.Course.{Fitting}
 use Rattle.walk.specs.declared.Standing.{Standing}
 use Rattle.walk.specs.declared.Standing.the-variants.{Down, Ended, Given, Up}
 use Rattle.walk.specs.declared.Walk.{Walk}
@@ -116,26 +116,22 @@ module _ (w : Walk) where
 
   -- ---- all of it
 
-  pub fit-no-sizes : fitSizes rules w ≡ false → fit rules w ≡ false
+  by-record : fit rules w ≡ ((fitSizes rules w && fitRow w) && fitAt rules (w .at) w)
   unfolding fit
-  fit-no-sizes e = rw e
+  by-record = sym (and-assoc (fitSizes rules w) (fitRow w) (fitAt rules (w .at) w))
 
-  pub fit-no-row : fitSizes rules w ≡ true → fitRow w ≡ false → fit rules w ≡ false
-  unfolding fit
-  fit-no-row e f = rw (e, f)
+  pub fit-no-record : (fitSizes rules w && fitRow w) ≡ false → fit rules w ≡ false
+  fit-no-record e = by-record ∙ rw e
 
-  pub fit-so-far : fitSizes rules w ≡ true → fitRow w ≡ true → fitAt rules (w .at) w ≡ fit rules w
-  unfolding fit
-  fit-so-far e f = rw (e, f)
+  pub fit-so-far : (fitSizes rules w && fitRow w) ≡ true → fitAt rules (w .at) w ≡ fit rules w
+  fit-so-far e = sym (by-record ∙ rw e)
 
--- ---- what the tests of a row ask for
-
-module _ (w : Walk) (f : Fitting w) (l : length (w .row) ≡ 64) where
-  whole-length : length (rowOf w) ≡ w .n
-  whole-length = length-take-le (w .n) (w .row) (omega (arith, f .most))
-
-  pub whole-row : (0 < length (rowOf w)) × (length (rowOf w) ≤ 64) × Symbols (rowOf w)
-  whole-row = (omega (arith, whole-length, f .some), omega (arith, whole-length, f .most), symbols-take (w .n) (w .row) (f .symbols))
+  -- what the record's own tests show
+  pub record-fitting : (fitSizes rules w && fitRow w) ≡ true → Fitting w
+  record-fitting e =
+      let a = and→ (fitSizes rules w) (fitRow w) e in
+      let z = sizes→ (a .0) in
+      record { some = z .0 .some; most = z .0 .most; dense = z .1; symbols = row-symbols (a .1) }
 
 -- a necklace of a density is a necklace
 pub is-necklace : (d : ℕ) (w : List ℕ) → isNecklaceOf d w ≡ true → isNecklace w ≡ true

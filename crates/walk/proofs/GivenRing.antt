@@ -9,7 +9,7 @@ use Rattle.density.specs.Necklaces.{isNecklaceOf}
 use Rattle.refusal.specs.declared.Refusal.{Refusal}
 use Rattle.walk.proofs.Good.{Fit, fit-at}
 use Rattle.walk.specs.Fit.{fit, fitAt}
-use Rattle.walk.specs.Moves.{Move, Rules, answer, belowMove, downMove, foundMove, free, limitMove, moveAt, rowOf, trial, upMove}
+use Rattle.walk.specs.Moves.{Move, Rules, answer, downMove, foundMove, free, goneBelow, limitMove, moveAt, rowOf, trial, upMove}
 use Rattle.walk.specs.Step.{after, enough, run, stepFit, stepOf}
 use Rattle.walk.specs.declared.Answer.the-variants.{None, Refused, Ring}
 use Rattle.walk.specs.declared.Standing.{Standing}
@@ -45,7 +45,7 @@ up-given : (R : Rules) (b : Bool) (i : ℕ) (w : Walk) → ToGiven (upMove R b i
 up-given R true i w = refl
 up-given R false i w = found-given (R .ofKind (w .kind) (rowOf w)) w
 
-below-given : (d : ℕ) (w : Walk) → ToGiven (belowMove d w)
+below-given : (d : ℕ) (w : Walk) → ToGiven (free (goneBelow d w))
 below-given zero w = refl
 below-given (suc d) w = refl
 

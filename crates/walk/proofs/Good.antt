@@ -12,6 +12,7 @@ use lib.Seq.{drop-set-lt, getD-take, take-set-lt}
 use borrow.Author.Tests.{le-leb, leb-true}
 use Rattle.density.proofs.Binary.{Binary, empty, one∷, zero∷}
 use Rattle.density.specs.Necklaces.{begins, isNecklaceOf, ofKind}
+use Rattle.walk.specs.Course.{Sound}
 use Rattle.walk.specs.Fit.{allUpTo, fit, fitAt, fitRow, fitSizes}
 use Rattle.walk.specs.Moves.{Rules, ended, rowOf}
 use Rattle.walk.specs.declared.Standing.{Standing}
@@ -55,15 +56,6 @@ zeros-clean (suc n) (suc k) = zeros-clean n k
 
 -- ---- what every record on the way has
 
-pub record Sound (R : Rules) (n d kind : ℕ) (row : List ℕ) : Type 0 where
-  pub some : 1 ≤ n
-  pub most : n ≤ R .most
-  pub dense : d ≤ n
-  pub kinds : R .known kind ≡ true
-  pub long : length row ≡ R .most
-  pub binary : Binary (take n row)
-  pub clean : allUpTo 0 (drop n row) ≡ true
-
 pub sound-set : {R : Rules} {n d kind : ℕ} {row : List ℕ} → Sound R n d kind row → (q b : ℕ) → q < n → Binary (b ∷ []) → Sound R n d kind (set row q b)
 sound-set {n = n} {row = row} s q b h c = record {
   some = s .some;
@@ -85,20 +77,6 @@ sound-zeros {n = n} {row = row} s = record {
   binary = zeros-binary n (length row);
   clean = zeros-clean n (length row);
 }
-
--- ---- good: Down 0 and Up (n + 1) too, and Given with a ring of another kind
-
-abbrev pub GoodAt : Standing → ℕ → ℕ → List ℕ → Type 0
-GoodAt Limit n d row = Unit {0}
-GoodAt (Down p) n d row = p ≤ n
-GoodAt (Up zero) n d row = ⊥
-GoodAt (Up (suc i)) n d row = (1 ≤ i) × (i ≤ n) × (begins n d (take i row) ≡ true)
-GoodAt Given n d row = isNecklaceOf d (take n row) ≡ true
-GoodAt Ended n d row = ⊥
-
-pub record Good (R : Rules) (w : Walk) : Type 0 where
-  pub sound : Sound R (w .n) (w .d) (w .kind) (w .row)
-  pub placed : GoodAt (w .at) (w .n) (w .d) (w .row)
 
 -- ---- fit
 

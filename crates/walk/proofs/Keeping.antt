@@ -1,9 +1,7 @@
 -- Each move of a good walk keeps what it stands for: the events put together.
-
--- ---- sizes
 use mathlib.Core.Bool.{Bool, false, true}
 use mathlib.Core.List.{List, [], _++_, _∷_}
-use mathlib.Core.Path.{ap, refl, _∙_, _≡_}
+use mathlib.Core.Path.{ap, refl, sym, _∙_, _≡_}
 use Prim.Native.Nat.{suc, zero, ℕ, _*_, _+_, _-_, _<_, _≤_}
 use native.Mathlib.Nat.{le-refl}
 use native.Mathlib.Omega.{arith}
@@ -17,18 +15,21 @@ use Rattle.density.specs.Necklaces.{begins, isNecklaceOf, ofKind}
 use Rattle.prefix.proofs.Begun.{begins-member, member-begins}
 use Rattle.walk.proofs.Below.{below-lines, below-rows, last-lines, last-rows, none-lines}
 use Rattle.walk.proofs.Events.{down-free, down-no-lines, down-no-rows, down-yes-lines, down-yes-rows, fixed, found-lines, found-rows, limit-no-lines, limit-no-rows, limit-yes-lines, up-lines, up-no-rows, up-yes-rows}
-use Rattle.walk.proofs.Good.{Fit, Good, GoodAt, Sound, down-fit, ended-fit, given-fit, sound-fit, sound-set, symbol, up-fit}
+use Rattle.walk.proofs.Good.{Fit, down-fit, ended-fit, given-fit, sound-fit, sound-set, symbol, up-fit}
 use Rattle.walk.proofs.Rounds.{other-way}
-use Rattle.walk.proofs.Runs.{Keeps, keeps-answer, keeps-free, keeps-trial}
-use Rattle.walk.proofs.Stands.{linesAt, movesAt, rowsAt, size, sizeAt, stands}
+use Rattle.walk.proofs.Runs.{Keeps, keeps-answer, keeps-free, keeps-trial, said-row}
 use Rattle.walk.proofs.Strikes.{strike-kept, strike-out, strike-raise}
+use Rattle.walk.specs.Course.{Good, GoodAt, Sound, movesAt, size, sizeAt}
 use Rattle.walk.specs.Fit.{fitAt}
-use Rattle.walk.specs.Listing.{raise, strike}
-use Rattle.walk.specs.Moves.{Move, Rules, answer, belowMove, downMove, downTried, ended, foundMove, free, limitMove, moveAt, moved, rowOf, trial, upMove, upTried}
+use Rattle.walk.specs.Listing.{Listing, entry, raise, strike}
+use Rattle.walk.specs.Moves.{Move, Rules, answer, downMove, downTried, ended, foundMove, free, goneBelow, limitMove, moveAt, moved, rowOf, trial, upMove, upTried}
+use Rattle.walk.specs.ToCome.{linesAt, rowsAt, stands}
 use Rattle.walk.specs.declared.Answer.the-variants.{None}
 use Rattle.walk.specs.declared.Standing.{Standing}
 use Rattle.walk.specs.declared.Standing.the-variants.{Down, Ended, Given, Limit, Up}
 use Rattle.walk.specs.declared.Walk.{Walk}
+
+-- ---- sizes
 
 pub smaller : (n d : ℕ) (s s′ : Standing) (row row′ : List ℕ) → rowsAt s n d row ≡ rowsAt s′ n d row′ → movesAt n s′ < movesAt n s → sizeAt s′ n d row′ < sizeAt s n d row
 unfolding sizeAt
@@ -145,7 +146,8 @@ module _ (R : Rules) where
       at-found true e =
           keeps-answer (sound-fit sound (given-fit R (moved w (w .row) Given) (member-test i) e))
           (stands-here w (Up (suc (w .n))) at sound ∙ ap (strike (R .ofKind (w .kind))) (found-lines (w .n) (w .d) (w .row) long i)
-          ∙ strike-kept (R .ofKind (w .kind)) (rowOf w) (linesAt Given (w .n) (w .d) (w .row)) e)
+          ∙ strike-kept (R .ofKind (w .kind)) (rowOf w) (linesAt Given (w .n) (w .d) (w .row)) e
+          ∙ ap {B = Listing} (λ s. entry s 0 (strike (R .ofKind (w .kind)) (linesAt Given (w .n) (w .d) (w .row)))) (sym (said-row (rowOf w) (omega (arith, sound .some, i .long)))))
       at-found false e =
           keeps-free (record { sound = sound; placed = member-test i })
           (stands-here w (Up (suc (w .n))) at sound ∙ ap (strike (R .ofKind (w .kind))) (found-lines (w .n) (w .d) (w .row) long i)
@@ -160,7 +162,7 @@ module _ (R : Rules) where
 
     -- ---- Given, and none
 
-    at-given : w .at ≡ Given → Member (w .n) (w .d) (rowOf w) → (d : ℕ) → w .d ≡ d → Kept w (belowMove d w)
+    at-given : w .at ≡ Given → Member (w .n) (w .d) (rowOf w) → (d : ℕ) → w .d ≡ d → Kept w (free (goneBelow d w))
     at-given at i zero e =
         let j : Member (w .n) 0 (rowOf w) = rw e at i in
         to-free w Given at sound (Down 0) (w .row) sound (omega arith)

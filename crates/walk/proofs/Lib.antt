@@ -4,8 +4,7 @@ pub mod Ends
 -- prices and striking out
 pub mod Prices
 pub mod Strikes
--- what a walk stands for, and what each move does to it
-pub mod Stands
+-- what each move does to what a walk stands for, and how many may come
 pub mod Events
 pub mod Below
 -- good and fit records, each move kept, a run as the listing has it
@@ -14,13 +13,17 @@ pub mod Runs
 pub mod Keeping
 pub mod Enough
 pub mod Steps
+pub mod Needed
+pub mod AnyStep
 -- what the functions compute, step by step
 pub mod RowTests
 pub mod FitSteps
 pub mod OpenSteps
-pub mod PhaseSteps
 pub mod Onward
-pub mod Going
+pub mod Resuming
+pub mod MoveCases
+pub mod StepLoop
+pub mod Tried
 -- demand 3, and what follows from it
 pub mod Demand
 pub mod Following
@@ -31,3 +34,8 @@ pub mod Totalled
 pub mod Bound
 pub mod Plenty
 pub mod GivenRing
+-- what is claimed in specs/
+pub mod FitFacts
+pub mod RecordClaims
+pub mod BookClaims
+pub mod OpeningClaims

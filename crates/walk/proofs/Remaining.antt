@@ -1,17 +1,17 @@
 -- A book after some of its steps: what the next step says, by what is left.
-
--- a book with nothing left to come, or with rings and then none
 use mathlib.Core.Bool.{Bool, false, true}
-use mathlib.Core.List.{List, [], map, _++_, _∷_}
+use mathlib.Core.List.{List, [], nil≢cons, _++_, _∷_}
 use mathlib.Core.Path.{ap, refl, sym, _∙_, _≡_}
-use Prim.Native.Nat.{ℕ, _<_, _≤_}
+use Prim.Native.Nat.{ℕ, _-_, _<_, _≤_}
 use native.Mathlib.Omega.{arith}
 use lib.Dec.{ltb}
 use borrow.Author.Tests.{le-ltb, lt-ltb, ltb-false, ltb-true}
-use Rattle.walk.proofs.Named.{Closed, last, line, refused≢none, ring≢none}
-use Rattle.walk.specs.Listing.{Listing, Said, entry, listed, listingAnswers, listingStep, none, over, pay, refused, ring, told}
-use Rattle.walk.specs.Totals.{also, listingLeft, named, owed, ringsOf}
+use Rattle.walk.proofs.Named.{refused≢none, ring≢none}
+use Rattle.walk.proofs.Strikes.{Closed, last, line}
+use Rattle.walk.specs.Listing.{Listing, Said, Told, entry, listed, listingAnswers, listingStep, none, over, pay, refused, ring, told}
+use Rattle.walk.specs.Totals.{AtMost, SaysNone, all-over, also, and-then, later, listingLeft, named, now, owed, ringsOf}
 
+-- a book with nothing left to come, or with rings and then none
 pub data Remaining : Listing → Type 0 where
   ended : Remaining over
   to-come : {l : Listing} → Closed l → Remaining l
@@ -93,6 +93,34 @@ unfolding listingStep
 →spent over a h = absurd (omega arith)
 →spent (entry s p l) a h = rw (lt-ltb a p h)
 
+-- the trials of any other step
+pub →paid : (l : Listing) (a : ℕ) → owed l ≤ a → listingStep l a .tells .trials ≡ owed l
+unfolding listingStep
+→paid over a h = refl
+→paid (entry s p l) a h = rw (le-ltb a p h)
+
+-- ---- a ring
+
+pub ring→ : {l : Listing} → Remaining l → (a : ℕ) (r : List ℕ) → listingStep l a .tells .said ≡ ring r → ((more : List (List ℕ)) × (ringsOf l ≡ r ∷ more)) × (owed l ≤ a)
+unfolding listingStep ringsOf
+ring→ ended a r e = absurd (ring≢refused (sym e))
+ring→ (to-come (last {p = p})) a r e = go (ltb a p) e
+  where
+    go : (b : Bool) → pay b none p over a .tells .said ≡ ring r → ((more : List (List ℕ)) × (_≡_ {A = List (List ℕ)} [] (r ∷ more))) × (p ≤ a)
+    go true e = absurd (ring≢refused (sym e))
+    go false e = absurd (ring≢none (sym e))
+ring→ (to-come (line {r = s} {p = p} {l = l} c)) a r e = go (ltb a p) refl e
+  where
+    go : (b : Bool) → ltb a p ≡ b → pay b (ring s) p l a .tells .said ≡ ring r → ((more : List (List ℕ)) × (s ∷ ringsOf l ≡ r ∷ more)) × (p ≤ a)
+    go true q e = absurd (ring≢refused (sym e))
+    go false q e = let h : s ≡ r = cc in ((ringsOf l, ap {B = List (List ℕ)} (λ t. t ∷ ringsOf l) h), ltb-false a p q)
+
+pub →ring : {l : Listing} → Remaining l → (a : ℕ) (r : List ℕ) (more : List (List ℕ)) → ringsOf l ≡ r ∷ more → owed l ≤ a → listingStep l a .tells .said ≡ ring r
+unfolding listingStep ringsOf
+→ring ended a r more e h = absurd (nil≢cons e)
+→ring (to-come last) a r more e h = absurd (nil≢cons e)
+→ring (to-come (line {r = s} {p = p} {l = l} c)) a r more e h = let q : s ≡ r = cc in rw (le-ltb a p h) (ap ring q)
+
 -- ---- none
 
 pub none→ : {l : Listing} → Remaining l → (a : ℕ) → listingStep l a .tells .said ≡ none → (ringsOf l ≡ []) × (l ≡ over → ⊥) × (owed l ≤ a)
@@ -121,7 +149,73 @@ none-over {l} r a e = let h = none→ r a e in rw (→none r a (h .0) (h .1) (h 
 
 -- ---- ended
 
-pub over-answers : (steps : List ℕ) → listingAnswers over steps ≡ map (λ a. told (refused 20) 0) steps
-unfolding listingAnswers listingStep
-over-answers [] = refl
-over-answers (a ∷ more) = rw (over-answers more)
+pub ended→ : {l : Listing} → Remaining l → (a : ℕ) → listingStep l a .tells .said ≡ refused 20 → l ≡ over
+unfolding listingStep
+ended→ ended a e = refl
+ended→ (to-come (last {p = p})) a e = go (ltb a p) e
+  where
+    go : (b : Bool) → pay b none p over a .tells .said ≡ refused 20 → entry none p over ≡ over
+    go true e = absurd (ended≢spent (sym e))
+    go false e = absurd (refused≢none (sym e))
+ended→ (to-come (line {r = r} {p = p} {l = l} c)) a e = go (ltb a p) e
+  where
+    go : (b : Bool) → pay b (ring r) p l a .tells .said ≡ refused 20 → entry (ring r) p l ≡ over
+    go true e = absurd (ended≢spent (sym e))
+    go false e = absurd (ring≢refused e)
+
+pub →ended : (l : Listing) (a : ℕ) → l ≡ over → listingStep l a .tells .said ≡ refused 20
+unfolding listingStep
+→ended l a e = rw e
+
+-- none was said, exactly when nothing is left
+over-left : (steps : List ℕ) → listingLeft over steps ≡ over
+unfolding listingLeft listingStep
+over-left [] = refl
+over-left (a ∷ more) = over-left more
+
+pub said→left : (steps : List ℕ) {l : Listing} → Remaining l → SaysNone (listingAnswers l steps) → listingLeft l steps ≡ over
+unfolding listingAnswers listingLeft
+said→left (a ∷ more) {l} h s = go refl s (said→left more (step-remaining h a))
+  where
+    go : {t : Told} → listingStep l a .tells ≡ t → SaysNone (t ∷ listingAnswers (listingStep l a .left) more)
+        → (SaysNone (listingAnswers (listingStep l a .left) more) → listingLeft (listingStep l a .left) more ≡ over) → listingLeft (listingStep l a .left) more ≡ over
+    go e now ih = ap (λ k. listingLeft k more) (none-over h a (ap (λ t. t .said) e)) ∙ over-left more
+    go e (later s) ih = ih s
+
+pub left→said : (steps : List ℕ) {l : Listing} → Closed l → listingLeft l steps ≡ over → SaysNone (listingAnswers l steps)
+unfolding listingAnswers listingLeft listingStep
+left→said [] last e = absurd (entry≢over e)
+left→said [] (line c) e = absurd (entry≢over e)
+left→said (a ∷ more) (last {p = p}) e = go (ltb a p) e (left→said more last)
+  where
+    go : (b : Bool) → listingLeft (pay b none p over a .left) more ≡ over → (listingLeft (entry none (p - a) over) more ≡ over → SaysNone (listingAnswers (entry none (p - a) over) more))
+        → SaysNone (pay b none p over a .tells ∷ listingAnswers (pay b none p over a .left) more)
+    go true e ih = later (ih e)
+    go false e ih = now
+left→said (a ∷ more) (line {r = r} {p = p} {l = l} c) e = go (ltb a p) e (left→said more (line c)) (left→said more c)
+  where
+    go : (b : Bool) → listingLeft (pay b (ring r) p l a .left) more ≡ over
+        → (listingLeft (entry (ring r) (p - a) l) more ≡ over → SaysNone (listingAnswers (entry (ring r) (p - a) l) more)) → (listingLeft l more ≡ over → SaysNone (listingAnswers l more))
+        → SaysNone (pay b (ring r) p l a .tells ∷ listingAnswers (pay b (ring r) p l a .left) more)
+    go true e one all = later (one e)
+    go false e one all = later (all e)
+
+-- ---- prices
+
+step-few : {b : ℕ} {l : Listing} → AtMost b l → (a : ℕ) → AtMost b (listingStep l a .left)
+unfolding listingStep
+step-few all-over a = all-over
+step-few {b} (and-then {s = s} {p = p} {l = l} h m) a = go (ltb a p)
+  where
+    go : (t : Bool) → AtMost b (pay t s p l a .left)
+    go true = and-then {p = p - a} (omega arith) m
+    go false = m
+
+pub left-few : (steps : List ℕ) {b : ℕ} {l : Listing} → AtMost b l → AtMost b (listingLeft l steps)
+unfolding listingLeft
+left-few [] m = m
+left-few (a ∷ more) m = left-few more (step-few m a)
+
+pub owed-few : {b : ℕ} {l : Listing} → AtMost b l → owed l ≤ b
+owed-few all-over = omega arith
+owed-few (and-then h m) = h

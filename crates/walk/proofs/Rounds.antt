@@ -1,6 +1,4 @@
 -- What one question tells of the rows to come: below u 1 0..0, and at or below u 1..1.
-
--- the necklaces of (n, d) at or below x, falling
 use mathlib.Core.Bool.{false, true, true≢false}
 use mathlib.Core.List.{List, List·Memᴰ, List·Memᴰ·cases-cons, List·Memᴰ·head, List·Memᴰ·not-nil, [], append-assoc, _++_, _∷_}
 use mathlib.Core.Logic.{inl, inr, _⊎_}
@@ -12,20 +10,17 @@ use lib.ListN.{length, length-append}
 use Rattle.density.proofs.Binary.{Binary, binary-behind, empty, one∷, zero∷}
 use Rattle.density.proofs.Members.{Begun, begins→, member→, necklaces-falling, not-begins, →member}
 use Rattle.density.specs.Necklaces.{begins, necklaces}
-use Rattle.walk.specs.Listing.{necklacesBelow}
+use Rattle.walk.specs.Listing.{necklacesBelow, necklacesUpTo}
 use Rattle.words.proofs.AtMost.{lower}
 use Rattle.words.proofs.Below.{here, ≺-asym, ≺-irrefl, _≺_}
 use Rattle.words.proofs.Beside.{Beside, beside, higher-in, le-higher-in, le-lower-in, le-starts, lower-in, lt-higher-in, lt-lower-in, lt-starts, not-under-zeros, starts}
-use Rattle.words.proofs.Falling.{Falling, falls-below, keep-falling}
+use Rattle.words.proofs.Falling.{falls-below, keep-falling}
 use Rattle.words.proofs.FirstDifference.{ext-left, ext-right, _≪_}
 use Rattle.words.proofs.Lists.{keep-same, keep→, →keep}
 use Rattle.words.proofs.OrderTests.{not-le, not-lt, →le, →lt}
+use Rattle.words.specs.Falling.{Falling}
 use Rattle.words.specs.Order.{cmp, le, lt}
 use Rattle.words.specs.Symbols.{ones, zeros}
-use Rattle.words.specs.Tests.{keep}
-
-unfoldable pub necklacesUpTo : ℕ → ℕ → List ℕ → List (List ℕ)
-necklacesUpTo n d x = keep (λ r. le r x) (necklaces n d)
 
 -- no row of k symbols is above k ones
 pub under-ones : {z : List ℕ} (k : ℕ) → Binary z → length z ≡ k → le z (ones k) ≡ true

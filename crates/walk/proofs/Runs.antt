@@ -1,18 +1,34 @@
 -- If each move keeps what a walk stands for, a run answers as the book does. Nothing here knows of rows or drawers.
-
--- what the first of a listing that was raised by a trial was before
-use mathlib.Core.Path.{refl, sym, _∙_, _≡_}
+use mathlib.Core.List.{List, [], _∷_}
+use mathlib.Core.Path.{ap, refl, sym, _∙_, _≡_}
 use Prim.Native.Nat.{suc, zero, ℕ, _+_, _-_, _<_, _≤_}
 use native.Mathlib.Omega.{arith}
-use Rattle.refusal.specs.declared.Refusal.the-variants.{Spent}
-use Rattle.walk.specs.Listing.{Listing, Said, entry, over, raise}
+use lib.ListN.{length}
+use Rattle.refusal.specs.declared.Refusal.the-variants.{Ended as HasEnded, Spent}
+use Rattle.walk.specs.Listing.{Listing, Said, entry, over, raise, ring, told}
 use Rattle.walk.specs.Moves.{Move, Rules, answer, free, moveAt, trial}
-use Rattle.walk.specs.Step.{after, run, saidAs}
+use Rattle.walk.specs.Step.{after, answerNumbers, run, saidBy, stepped, toldBy}
 use Rattle.walk.specs.declared.Answer.{Answer}
-use Rattle.walk.specs.declared.Answer.the-variants.{Refused}
+use Rattle.walk.specs.declared.Answer.the-variants.{None, Refused, Ring}
+use Rattle.walk.specs.declared.Standing.the-variants.{Ended}
 use Rattle.walk.specs.declared.Stepped.{Stepped}
 use Rattle.walk.specs.declared.Walk.{Walk}
 
+-- an answer in the book's terms
+abbrev pub saidAs : Answer → Walk → Said
+saidAs a w = toldBy (answerNumbers a w 0) .said
+
+pub told-as : (a : Answer) (w : Walk) (t : ℕ) → toldBy (answerNumbers a w t) ≡ told (saidAs a w) t
+told-as Ring w t = refl
+told-as None w t = refl
+told-as (Refused r) w t = refl
+
+-- a row that is not empty is a ring
+pub said-row : (row : List ℕ) → 0 < length row → saidBy 0 row ≡ ring row
+said-row [] h = absurd (omega arith)
+said-row (x ∷ row) h = refl
+
+-- what the first of a listing that was raised by a trial was before
 pub record Paid (l : Listing) (s : Said) (owed : ℕ) (rest : Listing) : Type 0 where
   pub before : ℕ
   pub is : l ≡ entry s before rest
@@ -25,6 +41,12 @@ raised (entry s′ k rest′) {s} {o} {rest} e =
     let q : rest′ ≡ rest = cc in
     let h : 1 + k ≡ o = cc in
     record { before = k; is = cc; more = omega arith }
+
+-- an ended walk: 20, no change
+pub run-ended : (R : Rules) (w : Walk) (f k t : ℕ) → 0 < f → w .at ≡ Ended → run R f k t w ≡ stepped w (Refused HasEnded) t
+unfolding run moveAt
+run-ended R w zero k t h e = absurd (omega arith)
+run-ended R w (suc f) k t h e = ap (λ s. after (moveAt R s w) k t w (run R f)) e
 
 module _ (R : Rules) (Good Fit : Walk → Type 0) (stands : Walk → Listing) (size : Walk → ℕ) where
   -- what is asked of a move from w

@@ -1,6 +1,5 @@
 -- One step of a fit walk is the book's step on what it stands for.
--- ---- something is to come, unless the walk has ended
-use mathlib.Core.Bool.{Bool, and-eq-true-iff, false, true, _&&_}
+use mathlib.Core.Bool.{and-eq-true-iff, false, true, _&&_}
 use mathlib.Core.List.{List, List·Memᴰ·not-nil, [], _++_, _∷_}
 use mathlib.Core.Logic.{inl, inr, _⊎_}
 use mathlib.Core.Path.{ap, refl, _∙_, _≡_}
@@ -14,17 +13,19 @@ use borrow.Author.Tests.{le-ltb, leb-true, lt-ltb}
 use Rattle.density.proofs.Binary.{binary-behind}
 use Rattle.density.proofs.Members.{Begun, Member, begins→, →member}
 use Rattle.density.specs.Necklaces.{begins, isNecklaceOf, necklaces, ofKind}
+use Rattle.refusal.specs.declared.Refusal.the-variants.{Ended as HasEnded}
 use Rattle.walk.proofs.Enough.{enough-some, moves-enough}
-use Rattle.walk.proofs.Good.{Fit, Good, GoodAt, Sound, fit-at, fit-sound}
+use Rattle.walk.proofs.Good.{Fit, fit-at, fit-sound}
 use Rattle.walk.proofs.Keeping.{keeping}
-use Rattle.walk.proofs.Rounds.{necklacesUpTo, under-ones}
-use Rattle.walk.proofs.Runs.{Ran, given, run-as-listed, spent}
-use Rattle.walk.proofs.Stands.{firstAt, linesAt, rowsAt, size, stands}
-use Rattle.walk.proofs.Strikes.{Coming, lines-coming, ring-coming}
+use Rattle.walk.proofs.Rounds.{under-ones}
+use Rattle.walk.proofs.Runs.{Ran, given, run-as-listed, run-ended, saidAs, spent, told-as}
+use Rattle.walk.proofs.Strikes.{Closed, all-closed, coming, line, lines-closed, strike-closed}
+use Rattle.walk.specs.Course.{Good, GoodAt, Sound, size}
 use Rattle.walk.specs.Fit.{fitAt}
-use Rattle.walk.specs.Listing.{Listing, Said, allLines, entry, limitFirst, linesFrom, listingStep, necklacesBelow, over, strike, told}
+use Rattle.walk.specs.Listing.{Listing, Said, entry, listingStep, necklacesUpTo, over, strike, told}
 use Rattle.walk.specs.Moves.{Rules, answer, moveAt, rowOf}
-use Rattle.walk.specs.Step.{enough, run, saidAs, stepOf, stepped}
+use Rattle.walk.specs.Step.{enough, run, stepNumbers, stepOf, stepped, toldBy}
+use Rattle.walk.specs.ToCome.{firstAt, linesAt, rowsAt, stands}
 use Rattle.walk.specs.declared.Answer.the-variants.{Refused}
 use Rattle.walk.specs.declared.Standing.{Standing}
 use Rattle.walk.specs.declared.Standing.the-variants.{Down, Ended, Given, Limit, Up}
@@ -34,7 +35,6 @@ use Rattle.words.proofs.Beside.{le-starts}
 use Rattle.words.proofs.Lists.{→keep}
 use Rattle.words.specs.Order.{le}
 use Rattle.words.specs.Symbols.{ones}
-use Rattle.refusal.specs.declared.Refusal.the-variants.{Ended as HasEnded}
 
 up-some : (n d : ℕ) (u : List ℕ) (k : ℕ) → length u + k ≡ n → begins n d u ≡ true → necklacesUpTo n d (u ++ ones k) ≡ [] → ⊥
 unfolding necklacesUpTo
@@ -49,30 +49,24 @@ up-some n d u k l e nil = List·Memᴰ·not-nil (rw nil at (→keep (λ r. le r 
     low : le (u ++ s .rest) (u ++ ones k) ≡ true
     low = le-starts u (s .rest) (ones k) ∙ under-ones k (binary-behind u (i .binary)) (omega (arith, i .long, length-append u (s .rest)))
 
-first-coming : (test : List ℕ → Bool) (k : ℕ) (l : List (List ℕ)) → (l ≡ [] → ⊥) → Coming (strike test (firstAt k l))
-first-coming test k [] h = absurd (h refl)
-first-coming test k (r ∷ rs) h = ring-coming test r k (linesFrom true r rs) (lines-coming test true r rs)
+first-closed : (k : ℕ) (l : List (List ℕ)) → (l ≡ [] → ⊥) → Closed (firstAt k l)
+first-closed k [] h = absurd (h refl)
+first-closed k (r ∷ rs) h = line (lines-closed true r rs)
 
-pub coming : (R : Rules) (w : Walk) → Good R w → Coming (stands R w)
-unfolding stands linesAt allLines rowsAt
-coming R w g = go (w .at) (g .placed)
+-- rings and then none are to come
+pub stands-closed : (R : Rules) (w : Walk) → Good R w → Closed (stands R w)
+unfolding stands linesAt rowsAt
+stands-closed R w g = strike-closed (R .ofKind (w .kind)) (go (w .at) (g .placed))
   where
-    test : List ℕ → Bool
-    test = R .ofKind (w .kind)
-
     s : Sound R (w .n) (w .d) (w .kind) (w .row)
     s = g .sound
 
-    limit : (b : Bool) → Coming (strike test (limitFirst b (rowOf w) (necklacesBelow (w .n) (w .d) (rowOf w))))
-    limit true = ring-coming test (rowOf w) 0 (linesFrom true (rowOf w) (necklacesBelow (w .n) (w .d) (rowOf w))) (lines-coming test true _ _)
-    limit false = lines-coming test false _ _
-
-    go : (s : Standing) → GoodAt s (w .n) (w .d) (w .row) → Coming (strike test (linesAt s (w .n) (w .d) (w .row)))
-    go Limit h = limit (isNecklaceOf (w .d) (rowOf w))
-    go (Down p) h = lines-coming test false _ _
+    go : (s : Standing) → GoodAt s (w .n) (w .d) (w .row) → Closed (linesAt s (w .n) (w .d) (w .row))
+    go Limit h = all-closed (w .n) (w .d) (rowOf w)
+    go (Down p) h = lines-closed false _ _
     go (Up zero) h = absurd h
-    go (Up (suc i)) h = first-coming test (w .n - i) _ (up-some (w .n) (w .d) (take i (w .row)) (w .n - i) (omega (arith, length-take-le i (w .row) (omega (arith, h .1, s .most, s .long)), h .1)) (h .2))
-    go Given h = lines-coming test true _ _
+    go (Up (suc i)) h = first-closed (w .n - i) _ (up-some (w .n) (w .d) (take i (w .row)) (w .n - i) (omega (arith, length-take-le i (w .row) (omega (arith, h .1, s .most, s .long)), h .1)) (h .2))
+    go Given h = lines-closed true _ _
     go Ended h = absurd h
 
 -- ---- a fit walk has ended, or is good
@@ -93,11 +87,11 @@ fit-placed R w Ended e = inl refl
 -- ---- the step
 
 pub record Agrees (R : Rules) (w : Walk) (a : ℕ) (r : Stepped) : Type 0 where
-  pub tells : told (saidAs (r .answer) (r .walk)) (r .trials) ≡ listingStep (stands R w) a .tells
+  pub tells : toldBy (stepNumbers r) ≡ listingStep (stands R w) a .tells
   pub left : stands R (r .walk) ≡ listingStep (stands R w) a .left
   pub fits : Fit R (r .walk)
 
-ended-stands : (R : Rules) (w : Walk) → w .at ≡ Ended → stands R w ≡ over
+pub ended-stands : (R : Rules) (w : Walk) → w .at ≡ Ended → stands R w ≡ over
 unfolding stands linesAt strike
 ended-stands R w e = rw e
 
@@ -108,12 +102,12 @@ module _ (R : Rules) (w : Walk) (a : ℕ) where
   as-listed : {s : Said} {o : ℕ} {rest : Listing} (r : Stepped) → stands R w ≡ entry s o rest → Ran R (Good R) (Fit R) (stands R) size a 0 s o rest r → Agrees R w a r
   unfolding listingStep
   as-listed {s} {o} r e (spent l p q f g) = record {
-    tells = rw (e, lt-ltb a o l) (told-same (ap (λ t. saidAs t (r .walk)) p) (q ∙ zero-add a));
+    tells = rw (e, lt-ltb a o l) (told-as (r .answer) (r .walk) (r .trials) ∙ told-same (ap (λ t. saidAs t (r .walk)) p) (q ∙ zero-add a));
     left = rw (e, lt-ltb a o l) g;
     fits = f;
   }
   as-listed {s} {o} r e (given l p q f g) = record {
-    tells = rw (e, le-ltb a o l) (told-same p (q ∙ zero-add o));
+    tells = rw (e, le-ltb a o l) (told-as (r .answer) (r .walk) (r .trials) ∙ told-same p (q ∙ zero-add o));
     left = rw (e, le-ltb a o l) g;
     fits = f;
   }
@@ -123,11 +117,6 @@ module _ (R : Rules) (w : Walk) (a : ℕ) where
   fit-step f = rw (f .test)
 
   -- an ended walk: 20, no trial, no change
-  run-ended : w .at ≡ Ended → (f : ℕ) → 0 < f → run R f a 0 w ≡ stepped w (Refused HasEnded) 0
-  unfolding run moveAt
-  run-ended e zero h = absurd (omega arith)
-  run-ended e (suc f) h = rw e
-
   ended-agrees : Fit R w → w .at ≡ Ended → Agrees R w a (stepped w (Refused HasEnded) 0)
   unfolding listingStep
   ended-agrees f e = record { tells = rw over-now; left = rw over-now; fits = f }
@@ -135,13 +124,20 @@ module _ (R : Rules) (w : Walk) (a : ℕ) where
       over-now : stands R w ≡ over
       over-now = ended-stands R w e
 
+  pub ended-step : Fit R w → w .at ≡ Ended → stepOf R w a ≡ stepped w (Refused HasEnded) 0
+  ended-step f e = fit-step f ∙ run-ended R w (enough (w .n)) a 0 (enough-some (w .n)) e
+
+  -- any other: the first of what is to come, or spent
+  pub good-step : Fit R w → Good R w → {s : Said} {o : ℕ} {rest : Listing} → stands R w ≡ entry s o rest → Ran R (Good R) (Fit R) (stands R) size a 0 s o rest (stepOf R w a)
+  good-step f g {s} {o} {rest} e =
+      rw (fit-step f) (run-as-listed R (Good R) (Fit R) (stands R) size (keeping R) (enough (w .n)) a 0 w s o rest (moves-enough g) g e)
+
   pub step-agrees : Fit R w → Agrees R w a (stepOf R w a)
-  step-agrees f = rw (fit-step f) (go (fit-placed R w (w .at) (fit-at f)))
+  step-agrees f = go (fit-placed R w (w .at) (fit-at f))
     where
-      go : (w .at ≡ Ended) ⊎ GoodAt (w .at) (w .n) (w .d) (w .row) → Agrees R w a (run R (enough (w .n)) a 0 w)
-      go (inl e) = rw (run-ended e (enough (w .n)) (enough-some (w .n))) (ended-agrees f e)
+      go : (w .at ≡ Ended) ⊎ GoodAt (w .at) (w .n) (w .d) (w .row) → Agrees R w a (stepOf R w a)
+      go (inl e) = rw (ended-step f e) (ended-agrees f e)
       go (inr p) =
           let g : Good R w = record { sound = fit-sound f; placed = p } in
-          let b = coming R w g in
-          as-listed (run R (enough (w .n)) a 0 w) (b .is)
-          (run-as-listed R (Good R) (Fit R) (stands R) size (keeping R) (enough (w .n)) a 0 w (b .said) (b .owed) (b .rest) (moves-enough g) g (b .is))
+          let b = coming (stands-closed R w g) in
+          as-listed (stepOf R w a) (b .is) (good-step f g (b .is))

@@ -1,11 +1,12 @@
--- Striking out keeps what a trial and a ring do to a listing.
+-- Striking out keeps what a trial and a ring do to a listing, and that it has rings and then none.
 use mathlib.Core.Bool.{Bool, false, true}
 use mathlib.Core.List.{List, [], _∷_}
 use mathlib.Core.Path.{ap, refl, _≡_}
 use Prim.Native.Nat.{ℕ, _+_}
 use native.Mathlib.Omega.{arith}
+use Rattle.density.specs.Necklaces.{isNecklaceOf}
 use Rattle.walk.proofs.Prices.{raise-zero}
-use Rattle.walk.specs.Listing.{Listing, Said, counted, entry, linesFrom, none, over, price, raise, refused, ring, strike, struck}
+use Rattle.walk.specs.Listing.{Listing, Said, allLines, entry, limitFirst, linesFrom, listing, necklacesBelow, none, over, raise, refused, ring, strike, struck}
 
 raise-raise : (p q : ℕ) (l : Listing) → raise (p + q) l ≡ raise p (raise q l)
 raise-raise p q over = refl
@@ -30,27 +31,49 @@ pub strike-out : (test : List ℕ → Bool) (r : List ℕ) (l : Listing) → tes
 unfolding strike
 strike-out test r l e = rw e (raise-zero (strike test l))
 
--- ---- something is to come
+-- ---- rings to come, and then none
 
+pub data Closed : Listing → Type 0 where
+  last : {p : ℕ} → Closed (entry none p over)
+  line : {r : List ℕ} {p : ℕ} {l : Listing} → Closed l → Closed (entry (ring r) p l)
+
+pub lines-closed : (f : Bool) (x : List ℕ) (rs : List (List ℕ)) → Closed (linesFrom f x rs)
+unfolding linesFrom
+lines-closed f x [] = last
+lines-closed f x (r ∷ rs) = line (lines-closed true r rs)
+
+raise-closed : (c : ℕ) {l : Listing} → Closed l → Closed (raise c l)
+raise-closed c last = last
+raise-closed c (line h) = line h
+
+pub strike-closed : (test : List ℕ → Bool) {l : Listing} → Closed l → Closed (strike test l)
+unfolding strike
+strike-closed test last = last
+strike-closed test (line {r = r} {p = p} {l = l} h) = go (test r) (strike-closed test h)
+  where
+    go : (b : Bool) → Closed (strike test l) → Closed (struck b r p (strike test l))
+    go true g = line g
+    go false g = raise-closed p g
+
+pub all-closed : (n d : ℕ) (limit : List ℕ) → Closed (allLines n d limit)
+unfolding allLines
+all-closed n d limit = go (isNecklaceOf d limit)
+  where
+    go : (b : Bool) → Closed (limitFirst b limit (necklacesBelow n d limit))
+    go true = line (lines-closed true limit (necklacesBelow n d limit))
+    go false = lines-closed false limit (necklacesBelow n d limit)
+
+pub listing-closed : (n d : ℕ) (test : List ℕ → Bool) (limit : List ℕ) → Closed (listing n d test limit)
+unfolding listing
+listing-closed n d test limit = strike-closed test (all-closed n d limit)
+
+-- the first of it
 pub record Coming (l : Listing) : Type 0 where
   pub said : Said
   pub owed : ℕ
   pub rest : Listing
   pub is : l ≡ entry said owed rest
 
-raise-coming : (c : ℕ) {l : Listing} → Coming l → Coming (raise c l)
-raise-coming c b = record { said = b .said; owed = c + b .owed; rest = b .rest; is = ap {B = Listing} (raise c) (b .is) }
-
--- a ring or none first, and then, a ring struck out, what follows
-pub ring-coming : (test : List ℕ → Bool) (r : List ℕ) (p : ℕ) (l : Listing) → Coming (strike test l) → Coming (strike test (entry (ring r) p l))
-unfolding strike
-ring-coming test r p l b = go (test r)
-  where
-    go : (t : Bool) → Coming (struck t r p (strike test l))
-    go true = record { said = ring r; owed = p; rest = strike test l; is = refl }
-    go false = raise-coming p b
-
-pub lines-coming : (test : List ℕ → Bool) (f : Bool) (x : List ℕ) (rs : List (List ℕ)) → Coming (strike test (linesFrom f x rs))
-unfolding linesFrom strike
-lines-coming test f x [] = record { said = none; owed = counted f x; rest = over; is = refl }
-lines-coming test f x (r ∷ rs) = ring-coming test r (price f x r) (linesFrom true r rs) (lines-coming test true r rs)
+pub coming : {l : Listing} → Closed l → Coming l
+coming (last {p = p}) = record { said = none; owed = p; rest = over; is = refl }
+coming (line {r = r} {p = p} {l = l} c) = record { said = ring r; owed = p; rest = l; is = refl }

@@ -1,19 +1,15 @@
 -- What each ring took in all doesn't depend on how the allowances are cut: it is its price in the book.
 use mathlib.Core.Bool.{Bool, false, true}
 use mathlib.Core.List.{List, [], _∷_}
-use mathlib.Core.Path.{ap, refl, _≡_}
-use Prim.Native.Nat.{suc, ℕ, _+_, _-_}
+use mathlib.Core.Logic.{inl, inr, _⊎_}
+use mathlib.Core.Path.{refl, _≡_}
+use Prim.Native.Nat.{ℕ, _+_, _-_}
 use native.Mathlib.Omega.{arith}
 use lib.Dec.{ltb}
 use borrow.Author.Tests.{ltb-true}
-use Rattle.density.specs.Necklaces.{ofKind}
-use Rattle.walk.proofs.Demand.{Opening, demand-3}
-use Rattle.walk.proofs.Named.{Closed, last, line, listing-closed}
 use Rattle.walk.proofs.Prices.{raise-zero}
-use Rattle.walk.specs.Listing.{Listing, entry, listing, listingAnswers, listingStep, none, over, pay, raise, ring}
-use Rattle.walk.specs.Moves.{Rules}
-use Rattle.walk.specs.Opening.{fresh}
-use Rattle.walk.specs.Step.{walkAnswers}
+use Rattle.walk.proofs.Strikes.{Closed, last, line}
+use Rattle.walk.specs.Listing.{Listing, Said, entry, listingAnswers, listingStep, none, over, pay, raise, ring}
 use Rattle.walk.specs.Totals.{Starts, at-once, then, totals}
 
 over-totals : (allowances : List ℕ) (made : ℕ) → Starts (totals made (listingAnswers over allowances)) over
@@ -39,28 +35,12 @@ listing-totals (a ∷ more) made (entry (ring r) p l) (line c) =
     go true e one all = let m : made + a + (p - a) ≡ made + p = omega (arith, ltb-true a p e) in rw m at one
     go false e one all = then (rw raise-zero at all)
 
-module _ (R : Rules) (n d kind : ℕ) (limit : List ℕ) (o : Opening R n d kind limit) where
-  -- the totals of any list of steps are the first entries of the book
-  pub totals-listed : (allowances : List ℕ) → Starts (totals 0 (walkAnswers R (fresh R n d kind limit) allowances)) (listing n d (R .ofKind kind) limit)
-  totals-listed allowances =
-      let l = listing n d (R .ofKind kind) limit in
-      rw (demand-3 R n d kind limit o allowances) (rw raise-zero at (listing-totals allowances 0 l (listing-closed n d (R .ofKind kind) limit)))
-
--- ---- two lists of steps that give as many rings give the same totals
-
-pub entries : Listing → ℕ
-entries over = 0
-entries (entry s p rest) = suc (entries rest)
-
-starts-same : {a b l : Listing} → Starts a l → Starts b l → entries a ≡ entries b → a ≡ b
-unfolding entries
-starts-same at-once at-once e = refl
-starts-same at-once (then h) e = absurd (omega arith)
-starts-same (then h) at-once e = absurd (omega arith)
-starts-same (then {s = s} {p = p} h) (then k) e = ap {B = Listing} (entry s p) (starts-same h k (omega arith))
-
-module _ (R : Rules) (n d kind : ℕ) (limit : List ℕ) (o : Opening R n d kind limit) where
-  pub cut-alike : (a b : List ℕ)
-      → entries (totals 0 (walkAnswers R (fresh R n d kind limit) a)) ≡ entries (totals 0 (walkAnswers R (fresh R n d kind limit) b))
-      → totals 0 (walkAnswers R (fresh R n d kind limit) a) ≡ totals 0 (walkAnswers R (fresh R n d kind limit) b)
-  cut-alike a b e = starts-same (totals-listed R n d kind limit o a) (totals-listed R n d kind limit o b) e
+-- of two beginnings of a book one begins the other
+pub starts-alike : {a b l : Listing} → Starts a l → Starts b l → Starts a b ⊎ Starts b a
+starts-alike at-once k = inl at-once
+starts-alike (then h) at-once = inr at-once
+starts-alike (then h) (then k) = go (starts-alike h k)
+  where
+    go : {s : Said} {p : ℕ} {a b : Listing} → Starts a b ⊎ Starts b a → Starts (entry s p a) (entry s p b) ⊎ Starts (entry s p b) (entry s p a)
+    go (inl h) = inl (then h)
+    go (inr h) = inr (then h)

@@ -1,10 +1,14 @@
 -- "Unfit (22)": which records are fit.
 use mathlib.Core.Bool.{Bool, true, _&&_}
-use mathlib.Core.List.{List, [], _∷_}
-use Prim.Native.Nat.{ℕ, _-_}
-use lib.ListN.{take, drop}
+use mathlib.Core.List.{List, List·Memᴰ, [], _∷_}
+use mathlib.Core.Logic.{_⊎_}
+use mathlib.Core.Path.{_≡_}
+use Prim.Native.Nat.{ℕ, _-_, _≤_}
+use lib.ListN.{getD, take, drop}
 use lib.Dec.{leb}
-use Rattle.density.specs.Necklaces.{isNecklaceOf, begins}
+use Rattle.words.specs.Claims.{Within}
+use Rattle.refusal.specs.Verdicts.{mostStations}
+use Rattle.density.specs.Necklaces.{isNecklaceOf, begins, necklaces, ofKind}
 use Rattle.walk.specs.declared.Standing.{Standing}
 use Rattle.walk.specs.declared.Standing.the-variants.{Limit, Down, Up, Given, Ended}
 use Rattle.walk.specs.declared.Walk.{Walk}
@@ -34,3 +38,21 @@ fitAt R Ended w = allUpTo 0 (w .row)
 
 unfoldable pub fit : Rules → Walk → Bool
 fit R w = fitSizes R w && (fitRow w && fitAt R (w .at) w)
+
+-- ---- the same as plain facts, by document 01's rules
+
+abbrev pub FitAt : Standing → Walk → Type 0
+FitAt Limit w = Unit
+FitAt (Down p) w = (1 ≤ p) × (p ≤ w .n)
+FitAt (Up p) w = (2 ≤ p) × (p ≤ w .n) × (begins (w .n) (w .d) (take (p - 1) (w .row)) ≡ true)
+FitAt Given w = List·Memᴰ (rowOf w) (necklaces (w .n) (w .d)) × (ofKind (w .kind) (rowOf w) ≡ true)
+FitAt Ended w = (i : ℕ) → getD (w .row) i 0 ≡ 0
+
+pub record FitRecord (w : Walk) : Type 0 where
+  pub some : 1 ≤ w .n
+  pub most : w .n ≤ mostStations
+  pub holes : w .d ≤ w .n
+  pub kinds : (w .kind ≡ 1) ⊎ (w .kind ≡ 2)
+  pub symbols : Within 2 (rowOf w)
+  pub after : (i : ℕ) → w .n ≤ i → getD (w .row) i 0 ≡ 0
+  pub place : FitAt (w .at) w

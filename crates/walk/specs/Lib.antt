@@ -1,8 +1,10 @@
--- The walk, move by move; the listing that its answers are held to; the totals of its answers.
+-- The walk, move by move; the listing that its answers are held to; the totals of its answers; what is claimed of them.
 pub mod Listing
 pub mod Moves
 pub mod Fit
+pub mod ToCome
 pub mod Step
 pub mod Opening
-pub mod Phases
+pub mod Course
 pub mod Totals
+pub mod Claims

@@ -4,10 +4,10 @@ use mathlib.Core.List.{List, [], _∷_}
 use Prim.Native.Nat.{ℕ, _+_, _-_}
 use lib.ListN.{length}
 use lib.Dec.{eqb, ltb}
-use Rattle.words.specs.Order.{lt}
+use Rattle.words.specs.Order.{le, lt}
 use Rattle.words.specs.Tests.{keep}
 use Rattle.density.specs.Density.{density}
-use Rattle.density.specs.Necklaces.{isNecklaceOf, necklaces}
+use Rattle.density.specs.Necklaces.{isNecklaceOf, necklaces, ofKind}
 
 -- what a step may say: a ring, none, or a refusal by its number
 pub data Said : Type 0 where
@@ -43,10 +43,18 @@ price isLine (a ∷ x) (b ∷ r) = cond (eqb a b) (price isLine x r) (counted is
 unfoldable pub necklacesBelow : ℕ → ℕ → List ℕ → List (List ℕ)
 necklacesBelow n d x = keep (λ r. lt r x) (necklaces n d)
 
+-- those at or below x
+unfoldable pub necklacesUpTo : ℕ → ℕ → List ℕ → List (List ℕ)
+necklacesUpTo n d x = keep (λ r. le r x) (necklaces n d)
+
 -- these lines, the first looked for from x (is x itself a line?); then "none", "at the price of all holes of x"
 unfoldable pub linesFrom : Bool → List ℕ → List (List ℕ) → Listing
 linesFrom isLine x [] = entry none (counted isLine x) over
 linesFrom isLine x (r ∷ rs) = entry (ring r) (price isLine x r) (linesFrom true r rs)
+
+-- all lines below x (is x itself a line?)
+abbrev pub linesBelow : Bool → ℕ → ℕ → List ℕ → Listing
+linesBelow isLine n d x = linesFrom isLine x (necklacesBelow n d x)
 
 -- "If the limit is a kind 1 row of the drawer, it is the first line, at price 0."
 abbrev pub limitFirst : Bool → List ℕ → List (List ℕ) → Listing
@@ -76,6 +84,10 @@ strike test (entry (refused c) p rest) = entry (refused c) p (strike test rest)
 -- the book, of the rows that pass a test of their kind
 unfoldable pub listing : ℕ → ℕ → (List ℕ → Bool) → List ℕ → Listing
 listing n d test limit = strike test (allLines n d limit)
+
+-- that of a kind
+abbrev pub book : ℕ → ℕ → ℕ → List ℕ → Listing
+book n d kind limit = listing n d (ofKind kind) limit
 
 -- ---- its steps
 

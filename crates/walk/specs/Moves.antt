@@ -71,9 +71,9 @@ upMove R true i w = trial (upTried (begins (w .n) (w .d) (take i (w .row) ++ (1 
 upMove R false i w = foundMove (R .ofKind (w .kind) (rowOf w)) w
 
 -- "Going on below: with d = 0, none; else the last symbol becomes 0 and the walk is at Down n."
-abbrev pub belowMove : ℕ → Walk → Move
-belowMove zero w = free (moved w (w .row) (Down 0))
-belowMove (suc d) w = free (moved w (set (w .row) (w .n - 1) 0) (Down (w .n)))
+abbrev pub goneBelow : ℕ → Walk → Walk
+goneBelow zero w = moved w (w .row) (Down 0)
+goneBelow (suc d) w = moved w (set (w .row) (w .n - 1) 0) (Down (w .n))
 
 -- "None: answered one time, the row becomes zeros, the walk is Ended."
 abbrev pub ended : Walk → Walk
@@ -86,5 +86,5 @@ moveAt R (Down zero) w = answer None (ended w)
 moveAt R (Down (suc q)) w = downMove (getD (w .row) q 0) q w
 moveAt R (Up zero) w = answer None (ended w)
 moveAt R (Up (suc i)) w = upMove R (ltb i (w .n)) i w
-moveAt R Given w = belowMove (w .d) w
+moveAt R Given w = free (goneBelow (w .d) w)
 moveAt R Ended w = answer (Refused HasEnded) w

@@ -3,7 +3,7 @@ use mathlib.Core.Bool.{Bool, true, false}
 use mathlib.Core.List.{List, [], _∷_}
 use Prim.Native.Nat.{ℕ, zero, suc, _+_, _*_, _^_}
 use Rattle.refusal.specs.declared.Refusal.the-variants.{Spent, Unfit}
-use Rattle.refusal.specs.Refusals.{numberOf}
+use Rattle.refusal.specs.Refusals.{numberOf, placeOf}
 use Rattle.walk.specs.declared.Walk.{Walk}
 use Rattle.walk.specs.declared.Answer.{Answer}
 use Rattle.walk.specs.declared.Answer.the-variants.{Ring, None, Refused}
@@ -39,19 +39,59 @@ stepFit R false w a = stepped w (Refused Unfit) 0
 unfoldable pub stepOf : Rules → Walk → ℕ → Stepped
 stepOf R w a = stepFit R (fit R w) w a
 
+-- ---- what is still needed
+
+-- one move, and what `on` needs further
+abbrev pub neededBy : Move → (Walk → ℕ) → ℕ
+neededBy (free v) on = on v
+neededBy (trial v) on = suc (on v)
+neededBy (answer a v) on = 0
+
+-- at most f moves
+unfoldable pub neededIn : Rules → ℕ → Walk → ℕ
+neededIn R zero w = 0
+neededIn R (suc f) w = neededBy (moveAt R (w .at) w) (neededIn R f)
+
+-- the trials that a walk's moves make until an answer
+unfoldable pub trialsNeeded : Rules → Walk → ℕ
+trialsNeeded R w = neededIn R (enough (w .n)) w
+
+-- ---- document 01's numbers
+
+-- a refusal's number, 0 for none, and its place; the ring's row, empty where no ring is given; the trials
+pub record StepNumbers : Type 0 where
+  pub number : ℕ
+  pub place : ℕ
+  pub row : List ℕ
+  pub trials : ℕ
+
+-- the numbers of each case of the answer: "each step returns the number [of trials] it made", refused or not
+abbrev pub answerNumbers : Answer → Walk → ℕ → StepNumbers
+answerNumbers Ring w t = record { number = 0; place = 0; row = rowOf w; trials = t }
+answerNumbers None w t = record { number = 0; place = 0; row = []; trials = t }
+answerNumbers (Refused r) w t = record { number = numberOf r; place = placeOf r; row = []; trials = t }
+
+abbrev pub stepNumbers : Stepped → StepNumbers
+stepNumbers s = answerNumbers (s .answer) (s .walk) (s .trials)
+
+-- the numbers that are due
+abbrev pub stepDue : Rules → Walk → ℕ → StepNumbers
+stepDue R w a = stepNumbers (stepOf R w a)
+
 -- ---- the answers to a list of steps, each on the walk that the last returned
 
--- an answer in the listing's terms: the ring is the walk's row, a refusal is document 01's number
-abbrev pub saidAs : Answer → Walk → Said
-saidAs Ring w = ring (rowOf w)
-saidAs None w = none
-saidAs (Refused r) w = refused (numberOf r)
+-- what the numbers say, in the book's terms: "row, none, 20 or 21"
+abbrev pub saidBy : ℕ → List ℕ → Said
+saidBy zero [] = none
+saidBy zero (x ∷ row) = ring (x ∷ row)
+saidBy (suc c) row = refused (suc c)
+
+abbrev pub toldBy : StepNumbers → Told
+toldBy s = told (saidBy (s .number) (s .row)) (s .trials)
 
 unfoldable pub walkAnswers : Rules → Walk → List ℕ → List Told
 walkAnswers R w [] = []
-walkAnswers R w (a ∷ more) =
-    let r = stepOf R w a in
-    told (saidAs (r .answer) (r .walk)) (r .trials) ∷ walkAnswers R (r .walk) more
+walkAnswers R w (a ∷ more) = toldBy (stepDue R w a) ∷ walkAnswers R (stepOf R w a .walk) more
 
 -- the record that the last of these steps handed back
 unfoldable pub handed : Rules → Walk → List ℕ → Walk

@@ -1,15 +1,20 @@
 // A walk of the necklaces of (n, d), held by value: opened at a limit, stepped with an allowance of trials.
-mod phases;
+mod course;
 mod rows;
 
+use prefix::carried::Known;
+use prefix::carried::Prefixes;
 use refusal::Refusal;
 ghost use mathlib.Core.Path.{_≡_};
+ghost use mathlib.Core.Bool.{_&&_};
 ghost use Prim.Native.Nat.{_≤_, _<_};
-ghost use Rattle.walk.specs.Moves.{rules};
-ghost use Rattle.walk.specs.Fit.{fit, fitSizes, fitRow, fitAt};
-ghost use Rattle.walk.specs.Step.{stepOf, stepped};
+ghost use lib.ListN.{take};
+ghost use Rattle.prefix.specs.Carried.{Knows, KnowsPrefixes};
+ghost use Rattle.walk.specs.Moves.{rowOf, rules};
+ghost use Rattle.walk.specs.Fit.{fitSizes, fitRow, fitAt};
+ghost use Rattle.walk.specs.Step.{stepDue, stepNumbers, stepOf, stepped};
 ghost use Rattle.walk.specs.Opening.{openVerdict, openAnswer, openNumbers};
-ghost use Rattle.walk.specs.Phases.{goneBelow, Fitting};
+ghost use Rattle.walk.specs.Course.{Fitting, before};
 ghost use Rattle.refusal.specs.Verdicts.{Verdict, verdictNumbers};
 ghost use mathlib.Core.List.{[]};
 
@@ -57,12 +62,18 @@ pub struct Opened {
     pub answer: OpenAnswer,
 }
 
-// Where a run of trials in one direction stops: the row, the standing, the trials left, and whether one was due with none left.
-pub struct Phase {
+// What a part of a step says: nothing, or the step's answer.
+pub enum Said {
+    Nothing,
+    Says(Answer),
+}
+
+// Where a part of a step has brought a walk, with the trials left.
+pub struct Reached {
     pub row: [u8; 64],
     pub at: Standing,
     pub left: u64,
-    pub spent: bool,
+    pub said: Said,
 }
 
 // The walk of a refused opening.
@@ -83,32 +94,6 @@ fn not_open(r: Refusal) -> Opened
     }
 }
 
-// What a step hands back.
-fn answered(
-    n: usize,
-    d: usize,
-    kind: u8,
-    row: [u8; 64],
-    at: Standing,
-    answer: Answer,
-    trials: u64,
-) -> Stepped
-    ensures { λ r. ⌜ r ≡ stepped (record { n = n; d = d; kind = kind; row = row; at = at }) answer trials ⌝ }
-{
-    let walk = Walk {
-        n,
-        d,
-        kind,
-        row,
-        at,
-    };
-    Stepped {
-        walk,
-        answer,
-        trials,
-    }
-}
-
 impl Walk {
     // Opens a walk of the necklaces of (n, d) of a kind, at or below a limit.
     pub fn open(n: usize, d: usize, kind: u8, limit: &[u8]) -> Opened
@@ -121,7 +106,7 @@ impl Walk {
         if n < d {
             return not_open(Refusal::Holes);
         }
-        if !rows::is_kind(kind) {
+        if !density::kinds::is_kind(kind) {
             return not_open(Refusal::Kind);
         }
         if limit.len() != n {
@@ -158,7 +143,7 @@ impl Walk {
         if n < d {
             return false;
         }
-        rows::is_kind(kind)
+        density::kinds::is_kind(kind)
     }
 
     // n symbols, and zeros after them.
@@ -174,9 +159,19 @@ impl Walk {
         rows::highest(&row[n..]) == 0
     }
 
-    // The row fits where the walk stands.
-    fn fit_at(self) -> bool
-        requires { ⌜ Fitting self ⌝ }
+    // Sizes and symbols in range.
+    fn fit_record(self) -> bool
+        ensures { λ r. ⌜ r ≡ (fitSizes rules self && fitRow self) ⌝ }
+    {
+        if !self.fit_sizes() {
+            return false;
+        }
+        self.fit_row()
+    }
+
+    // The row fits where the walk stands. The symbols before that place are known.
+    fn fit_at(self, known: Known) -> bool
+        requires { ⌜ Fitting self × (before (self .at) (self .n) ≤ self .n → Knows (take (before (self .at) (self .n)) (self .row)) known) ⌝ }
         ensures { λ r. ⌜ r ≡ fitAt rules (self .at) self ⌝ }
     {
         let n = self.n;
@@ -200,165 +195,93 @@ impl Walk {
                     return false;
                 }
                 let i = p - 1;
-                prefix::inner::begins_necklace(n, d, row, i)
+                known.begins(n, d, row, i)
             }
             Standing::Given => {
-                if !rows::is_member(d, &row[..n]) {
+                if !known.is_necklace_of(d, &row[..n]) {
                     return false;
                 }
-                rows::of_kind(kind, &row[..n])
+                known.is_of_kind(kind, &row[..n])
             }
             Standing::Ended => rows::highest(&row) == 0,
         }
     }
 
-    // Not refusal 22.
-    fn fit(self) -> bool
-        ensures { λ r. ⌜ r ≡ fit rules self ⌝ }
-    {
-        if !self.fit_sizes() {
-            return false;
-        }
-        if !self.fit_row() {
-            return false;
-        }
-        self.fit_at()
-    }
-
-    // Going on below.
-    fn below(self) -> Walk
-        requires { ⌜ (1 ≤ self .n) × (self .n ≤ 64) ⌝ }
-        ensures { λ r. ⌜ r ≡ goneBelow (self .d) self ⌝ }
+    // How many symbols lie before the place where the walk stands: all of them at Limit and Given.
+    fn before(self) -> usize
+        ensures { λ r. ⌜ r ≡ before (self .at) (self .n) ⌝ }
     {
         let n = self.n;
-        let d = self.d;
-        let kind = self.kind;
-        let mut row = self.row;
-        if d == 0 {
-            return Walk {
-                n,
-                d,
-                kind,
-                row,
-                at: Standing::Down(0),
-            };
+        let at = self.at;
+        match at {
+            Standing::Limit => n,
+            Standing::Down(p) => rows::one_less(p),
+            Standing::Up(p) => rows::one_less(p),
+            Standing::Given => n,
+            Standing::Ended => 0,
         }
-        row[n - 1] = 0;
-        Walk {
-            n,
-            d,
-            kind,
-            row,
-            at: Standing::Down(n),
+    }
+
+    // What is known of them, by the prefixes of the row.
+    fn known(self, prefixes: &Prefixes) -> Known
+        requires { ⌜ Fitting self × KnowsPrefixes (rowOf self) (now prefixes) ⌝ }
+        ensures { λ r. ⌜ (before (self .at) (self .n) ≤ self .n → Knows (take (before (self .at) (self .n)) (self .row)) r) ⌝ }
+    {
+        let n = self.n;
+        let row = self.row;
+        let m = self.before();
+        if n < m {
+            return Known::read(prefixes, &row[..n]);
+        }
+        Known::read(prefixes, &row[..m])
+    }
+
+    // Refusal 22.
+    fn unfit(self) -> Stepped
+        ensures { λ r. ⌜ r ≡ stepped self (Answer.Refused Refusal.Unfit) 0 ⌝ }
+    {
+        Stepped {
+            walk: self,
+            answer: Answer::Refused(Refusal::Unfit),
+            trials: 0,
         }
     }
 
     // A step: the next ring, none, or a refusal, with the trials that it made. An allowance of trials is counted down.
     pub fn step(self, allowance: u64) -> Stepped
-        ensures { λ r. ⌜ r ≡ stepOf rules self allowance ⌝ }
+        ensures answer { λ r. ⌜ r ≡ stepOf rules self allowance ⌝ }
+        ensures numbers { λ r. ⌜ stepNumbers r ≡ stepDue rules self allowance ⌝ }
     {
-        if !self.fit() {
-            return Stepped {
-                walk: self,
-                answer: Answer::Refused(Refusal::Unfit),
-                trials: 0,
-            };
+        if !self.fit_record() {
+            return self.unfit();
         }
         let n = self.n;
-        let d = self.d;
-        let kind = self.kind;
         let mut row = self.row;
         let mut at = self.at;
         let mut left = allowance;
+        let mut prefixes = prefix::carried::prefixes_of(&row[..n]);
+        let mut known = self.known(&prefixes);
+        if !self.fit_at(known) {
+            return self.unfit();
+        }
         loop {
-            match at {
-                Standing::Limit => {
-                    at = phases::from_limit(n, d, &row[..n]);
-                }
-                Standing::Down(p) => {
-                    if p == 0 {
-                        return answered(
-                            n,
-                            d,
-                            kind,
-                            [0u8; 64],
-                            Standing::Ended,
-                            Answer::None,
-                            allowance - left,
-                        );
-                    }
-                    let phase = phases::descend(n, d, row, p, left);
-                    row = phase.row;
-                    at = phase.at;
-                    left = phase.left;
-                    if phase.spent {
-                        return answered(
-                            n,
-                            d,
-                            kind,
-                            row,
-                            at,
-                            Answer::Refused(Refusal::Spent),
-                            allowance - left,
-                        );
-                    }
-                }
-                Standing::Up(p) => {
-                    if n < p {
-                        if rows::of_kind(kind, &row[..n]) {
-                            return answered(
-                                n,
-                                d,
-                                kind,
-                                row,
-                                Standing::Given,
-                                Answer::Ring,
-                                allowance - left,
-                            );
-                        }
-                        at = Standing::Given;
-                    } else {
-                        let phase = phases::ascend(n, d, row, p, left);
-                        row = phase.row;
-                        at = phase.at;
-                        left = phase.left;
-                        if phase.spent {
-                            return answered(
-                                n,
-                                d,
-                                kind,
-                                row,
-                                at,
-                                Answer::Refused(Refusal::Spent),
-                                allowance - left,
-                            );
-                        }
-                    }
-                }
-                Standing::Given => {
-                    let walk = Walk {
-                        n,
-                        d,
-                        kind,
-                        row,
-                        at,
-                    };
-                    let below = walk.below();
-                    row = below.row;
-                    at = below.at;
-                }
-                Standing::Ended => {
-                    return answered(
-                        n,
-                        d,
-                        kind,
-                        row,
-                        at,
-                        Answer::Refused(Refusal::Ended),
-                        allowance - left,
-                    );
-                }
+            let walk = Walk { row, at, ..self };
+            let reached = walk.go_on(&prefixes, known, left);
+            row = reached.row;
+            at = reached.at;
+            left = reached.left;
+            let said = reached.said;
+            if let Said::Says(answer) = said {
+                let walk = Walk { row, at, ..self };
+                return Stepped {
+                    walk,
+                    answer,
+                    trials: allowance - left,
+                };
             }
+            // a ring of another kind was found
+            prefixes = prefix::carried::prefixes_of(&row[..n]);
+            known = Known::read(&prefixes, &row[..n]);
         }
     }
 }

@@ -1,8 +1,7 @@
 // The walk against the book that a plain listing gives, its printed examples, and its refusals.
-mod book;
 mod shown;
 
-use book::Book;
+use plain_walks::book::Book;
 use walk::Standing;
 use walk::Stepped;
 use walk::Walk;
@@ -103,13 +102,13 @@ fn left_right(number: usize, n: usize, answer: u8, before: Walk, after: Walk) ->
 
 // Whether a step does what the book says.
 fn agrees(book: Book, allowance: usize, n: usize, before: Walk, step: Stepped) -> bool {
-    let said = book::says(book, allowance);
+    let said = plain_walks::book::says(book, allowance);
     let answer = step.answer;
     let after = step.walk;
     if plain_walks::answer_number(answer) != said {
         return false;
     }
-    if step.trials != book::trials(book, allowance) as u64 {
+    if step.trials != plain_walks::book::trials(book, allowance) as u64 {
         return false;
     }
     left_right(book.number, n, said, before, after)
@@ -138,12 +137,12 @@ fn compare(n: usize, half: usize, d: usize, kind: u8, limit: usize, pattern: usi
     let row = plain_rows::row_of_number(n, limit);
     let opening = Walk::open(n, d, kind, &row[..n]);
     let mut w = opening.walk;
-    let mut book = book::opened(n, half, d, kind, limit);
+    let mut book = plain_walks::book::opened(n, half, d, kind, limit);
     let mut counts = nothing();
     let mut i: usize = 0;
     while i < STEPS {
         let allowance = allowance_of(pattern, i);
-        let next = book::stepped(n, half, d, kind, book, allowance);
+        let next = plain_walks::book::stepped(n, half, d, kind, book, allowance);
         let step = w.step(allowance as u64);
         counts = sum(counts, counted(book, allowance, n, w, step));
         if book.over {
@@ -173,7 +172,7 @@ fn compare_limits(
     requires { ⌜ 0 < apart ⌝ }
     requires { ⌜ apart < 1000 ⌝ }
 {
-    let half = book::half_of(n);
+    let half = plain_walks::book::half_of(n);
     let mut counts = nothing();
     let mut limit = first;
     while limit < 2 * half {
@@ -215,7 +214,7 @@ fn show_drawers() {
     io::write_all(1, b"limit of ones, plenty allowed\n");
     let mut n: usize = 1;
     while n <= 14 {
-        let ones = 2 * book::half_of(n) - 1;
+        let ones = 2 * plain_walks::book::half_of(n) - 1;
         print_counts(n, compare_drawers(n, ones, 1, 0));
         n += 1;
     }

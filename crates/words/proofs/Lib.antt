@@ -32,3 +32,9 @@ pub mod ScanSteps
 pub mod Zeros
 pub mod Wrong
 pub mod Front
+-- the pass over a row and one symbol more
+pub mod ScanMore
+-- the period of a necklace in one pass
+pub mod OnePass
+-- what is claimed in specs/
+pub mod Claims

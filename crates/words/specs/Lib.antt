@@ -1,6 +1,8 @@
 -- Rows as lists of numbers, over any alphabet.
 pub mod Order
 pub mod Tests
+pub mod Falling
 pub mod Rotation
 pub mod Symbols
 pub mod Scan
+pub mod Claims

@@ -1,5 +1,5 @@
 -- Rotations, necklaces, Lyndon words, the period and the least rotation, over any alphabet.
-use mathlib.Core.Bool.{Bool, false}
+use mathlib.Core.Bool.{Bool, cond, false}
 use mathlib.Core.List.{List, [], _∷_, _++_}
 use Prim.Native.Nat.{ℕ, suc, pred}
 use lib.ListN.{length, take, drop}
@@ -22,6 +22,10 @@ isLyndon (x ∷ xs) = allBelow (length xs) (λ j. lt (x ∷ xs) (rotation (suc j
 -- "Period": the smallest p from 1 to n whose turn gives the row back (turn n is the row itself).
 unfoldable pub period : List ℕ → ℕ
 period w = firstFrom (pred (length w)) 1 (λ p. same (rotation p w) w)
+
+-- the period of a necklace, and 0 for a row that is none: both in one number
+unfoldable pub necklacePeriod : List ℕ → ℕ
+necklacePeriod w = cond (isNecklace w) (period w) 0
 
 -- turn j lies at or below all turns
 unfoldable pub isLeastAt : List ℕ → ℕ → Bool

@@ -3,6 +3,7 @@ ghost use mathlib.Core.Path.{_≡_};
 ghost use mathlib.Core.List.{_++_};
 ghost use Prim.Native.Nat.{_-_, _≤_, _<_};
 ghost use lib.ListN.{length};
+ghost use Rattle.words.specs.Rotation.{necklacePeriod};
 ghost use Rattle.words.specs.Scan.{Leading, coded, scan};
 ghost use Rattle.words.specs.Symbols.{zeros};
 
@@ -43,6 +44,27 @@ pub fn prefix_period(a: &[u8], z: usize) -> usize
         i += 1;
     }
     i - j
+}
+
+// What the pass over a row finds, as the period of a necklace: 0 where it is none.
+pub fn scanned_period(row: &[u8], p: usize) -> usize
+    requires { ⌜ (0 < length (now row)) × (coded p ≡ scan (now row)) ⌝ }
+    ensures { λ r. ⌜ r ≡ necklacePeriod (now (row .entry)) ⌝ }
+{
+    if p == 0 {
+        return 0;
+    }
+    if row.len() % p == 0 { p } else { 0 }
+}
+
+// The period of a necklace, and 0 for a row that is none, in one pass.
+pub fn necklace_period(row: &[u8]) -> usize
+    requires { ⌜ 0 < length (now row) ⌝ }
+    ensures { λ r. ⌜ r ≡ necklacePeriod (now (row .entry)) ⌝ }
+{
+    let zeros = leading_zeros(row);
+    let p = prefix_period(row, zeros);
+    scanned_period(row, p)
 }
 
 // A row and zeros behind it.

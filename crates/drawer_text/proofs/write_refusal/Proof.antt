@@ -7,7 +7,7 @@ use lib.ListN.{length, length-append}
 use borrow.Author.Needs.{needs}
 use Rattle.drawer_text.proofs.Filling.{Filled, filled-all, filled-more, filled-none, refusal-length, too-short}
 use Rattle.text.specs.Decimals.{decimal, field}
-use Rattle.drawer_text.specs.Lines.{refusalText, refusedNames}
+use Rattle.drawer_text.specs.Lines.{longestLine, refusalText, refusedNames}
 use Rattle.text.specs.Parts.{feed, space}
 use Rattle.refusal.specs.Refusals.{numberOf, placeOf}
 use Rattle.refusal.specs.declared.Refusal.{Refusal}
@@ -32,11 +32,17 @@ numbers c =
       others = c .decimal-length2 .ensures .0 ∙ ap (λ n. length (decimal n)) s;
     }
 
+-- two numbers of 64 bits
+short : (c : tie.After-decimal-length2) → length (refusalText (c .before .before .before .before .before .before .args .r)) ≤ longestLine
+short c =
+    let n = numbers c in
+    omega (arith, refusal-length (c .before .before .before .before .before .before .args .r), c .before .decimal-length .ensures .1, c .decimal-length2 .ensures .1)
+
 returns : tie.Need-returns
 returns c =
     let a = c .before .before .before .before .before .before .before .args in
     let n = numbers (c .before) in
-    too-short (refusalText (a .r)) (a .out .now) (omega (arith, refusal-length (a .r)))
+    (too-short (refusalText (a .r)) (a .out .now) (omega (arith, refusal-length (a .r))), short (c .before))
 
 -- there is room for the text's pieces
 record Room (r : Refusal) (O : List ℕ) : Type 0 where
@@ -80,8 +86,10 @@ returns-2 c =
     let a = c .before .before .before .before .before .before .before .before .before .before .before .before .before .before .before .before .before .before .before .before .args in
     let m = room (c .before .before .before .before .before .before .before .before .before .before .before .before .before) in
     let p = rw (numbers (c .before .before .before .before .before .before .before .before .before .before .before .before .before .before) .second) at (c .before .before .put-field2 .ensures) in
-    let n : length (refusedNames ++ field (numberOf (a .r)) space) + length (field (placeOf (a .r)) feed) ≤ length (a .out .now) = omega arith in
-    filled-all (refusalText (a .r)) (filled-more (numbered (c .before .before .before .before .before .before)) (field (placeOf (a .r)) feed) n (p .0) (p .1)) (simp append-assoc) (m .all)
+    let n : length (refusedNames ++ field (numberOf (a .r)) space) + length (field (placeOf (a .r)) feed) ≤ length (a .out .now) = omega arith in (
+      filled-all (refusalText (a .r)) (filled-more (numbered (c .before .before .before .before .before .before)) (field (placeOf (a .r)) feed) n (p .0) (p .1)) (simp append-assoc) (m .all),
+      short (c .before .before .before .before .before .before .before .before .before .before .before .before .before .before),
+    )
 
 pub write-refusal-spec : {M : Type 1} → statement M
 write-refusal-spec =

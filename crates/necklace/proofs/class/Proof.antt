@@ -4,7 +4,7 @@ use lib.ListN.{length}
 use borrow.Author.Needs.{needs}
 use borrow.Author.Tests.{not-false, not-true}
 use Rattle.necklace.proofs.Answers.{class-of, class-stations, class-symbol}
-use Rattle.necklace.proofs.OnePass.{class-lyndon, class-necklace}
+use Rattle.words.proofs.OnePass.{class-lyndon, class-necklace}
 use Rattle.refusal.proofs.Stations.{stations→}
 use Rattle.necklace.proofs.class.Statement.{statement}
 use Rattle.necklace.proofs.class.Tie as tie

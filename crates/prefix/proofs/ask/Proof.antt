@@ -1,8 +1,8 @@
 -- `prefix::ask` meets its contract: each return has passed the tests before it.
 use mathlib.Core.Bool.{true}
 use mathlib.Core.List.{List, _++_}
-use mathlib.Core.Path.{ap, refl, sym, _∙_, _≡_}
-use Prim.Native.Nat.{ℕ, _-_}
+use mathlib.Core.Path.{ap, refl, subst, sym, _∙_, _≡_}
+use Prim.Native.Nat.{ℕ, _-_, _≤_}
 use native.Mathlib.Omega.{arith}
 use lib.ListN.{length, take}
 use lib.Seq.{take-append-seam}
@@ -11,6 +11,7 @@ use borrow.Author.Tests.{not-false, not-true}
 use Rattle.density.specs.Necklaces.{begins}
 use Rattle.prefix.proofs.Places.{symbols-append, symbols-zeros}
 use Rattle.prefix.proofs.Refused.{ask-accepted, ask-holes, ask-prefix, ask-stations, ask-symbol, right-symbols}
+use Rattle.prefix.specs.Carried.{Knows}
 use Rattle.prefix.specs.Question.{questionNumbers}
 use Rattle.prefix.specs.Search.{Symbols}
 use Rattle.prefix.specs.declared.PrefixAnswer.the-variants.{Answered}
@@ -54,29 +55,45 @@ module _ (a r : List ℕ) (e : r ≡ a ++ zeros (64 - length a)) where
   has-symbols : Symbols a → Symbols r
   has-symbols f = rw e (symbols-append a (zeros (64 - length a)) f (symbols-zeros (64 - length a)))
 
-padded-requires : tie.Need-padded-requires
-padded-requires c κs =
-    let b = c .before .before in
-    let s = stations→ _ (sized (b .before .before)) in
-    omega (arith, s .most, b .if3 .left)
+short : (c : tie.Else3) → length (c .before .before .before .before .before .args .prefix .now) ≤ 64
+short c = let s = stations→ _ (sized (c .before .before)) in omega (arith, s .most, c .if3 .left)
 
-begins-necklace-requires : tie.Need-begins-necklace-requires
-begins-necklace-requires c κs =
-    let f = c .before .before in
+padded-requires : tie.Need-padded-requires
+padded-requires c κs = short (c .before .before)
+
+-- what was checked of the prefix
+right : (c : tie.Else4) → Symbols (c .before .before .before .before .before .before .before .args .prefix .now)
+right c = right-symbols _ (sym (c .before .first-wrong .ensures) ∙ c .if4 .left)
+
+prefixes-of-requires : tie.Need-prefixes-of-requires
+prefixes-of-requires c κs = short (c .before .before .before)
+
+read-requires : tie.Need-read-requires
+read-requires c κs = let p = c .before .before in (short (p .before .before .before), right (p .before), c .before .prefixes-of .ensures)
+
+begins-requires : tie.Need-begins-requires
+begins-requires c κs =
+    let p = c .before .before .before in
+    let f = p .before .before in
     let b = f .before in
     let a = b .before .before .before .before .before .args in
-    let s = stations→ (a .n) (sized (b .before .before)) in
-    let right = right-symbols (a .prefix .now) (sym (f .first-wrong .ensures) ∙ c .before .if4 .left) in
-    (s .most, b .before .if2 .left, b .if3 .left, has-symbols (a .prefix .now) _ (c .padded .ensures) right, s .some)
+    let s = stations→ (a .n) (sized (b .before .before)) in (
+      s .some,
+      s .most,
+      b .before .if2 .left,
+      b .if3 .left,
+      has-symbols (a .prefix .now) _ (p .padded .ensures) (right (p .before)),
+      subst (λ w. Knows w (c .read .result)) (sym (begins-so (a .prefix .now) _ (p .padded .ensures))) (c .read .ensures),
+    )
 
 returns-5 : tie.Need-returns-5
 returns-5 c =
-    let p = c .before in
+    let p = c .before .before .before .before in
     let f = p .before .before in
     let b = f .before in
     let a = b .before .before .before .before .before .args in
     rw (ask-accepted (a .n) (a .d) (a .prefix .now) (sized (b .before .before)) (b .before .if2 .left) (b .if3 .left) (sym (f .first-wrong .ensures) ∙ p .before .if4 .left))
-    (let e = c .begins-necklace .ensures ∙ ap (begins (a .n) (a .d)) (begins-so (a .prefix .now) _ (p .padded .ensures)) in (ap Answered e, ap (λ b. questionNumbers (Answered b)) e))
+    (let e = c .«begins» .ensures ∙ ap (begins (a .n) (a .d)) (begins-so (a .prefix .now) _ (p .padded .ensures)) in (ap Answered e, ap (λ b. questionNumbers (Answered b)) e))
 
 pub ask-spec : {M : Type 1} → statement M
-ask-spec = tie.close (tie.spec (λ c κs. search needs) returns returns-2 returns-3 (λ c κs. search needs) returns-4 padded-requires begins-necklace-requires returns-5)
+ask-spec = tie.close (tie.spec (λ c κs. search needs) returns returns-2 returns-3 (λ c κs. search needs) returns-4 padded-requires prefixes-of-requires read-requires begins-requires returns-5)

@@ -1,13 +1,13 @@
 -- `walk::Walk::below` meets its contract.
 use mathlib.Core.Path.{sym}
+use native.Mathlib.Omega.{arith}
 use borrow.Author.Needs.{needs}
-use Rattle.prefix.proofs.Places.{taken}
-use Rattle.walk.proofs.PhaseSteps.{gone-last, gone-on}
+use Rattle.walk.proofs.MoveCases.{gone-last, gone-on}
 use Rattle.walk.proofs.Walk.below.Statement.{statement}
 use Rattle.walk.proofs.Walk.below.Tie as tie
 
 returns : tie.Need-returns
-returns c = sym (gone-last (c .before .before .args .self) (c .if1 .taken))
+returns c = sym (gone-last (c .before .before .before .args .self) (c .before .if1 .taken))
 
 returns-2 : tie.Need-returns-2
 returns-2 c = sym (gone-on (c .before .before .args .self) (c .if1 .left))

@@ -1,21 +1,38 @@
 -- `walk::Walk::fit_at` meets its contract.
-use mathlib.Core.Path.{refl, sym, _∙_, _≡_}
+use mathlib.Core.Path.{ap, refl, subst, sym, _∙_, _≡_}
+use Prim.Native.Nat.{_-_, _≤_}
 use native.Mathlib.Omega.{arith}
-use lib.ListN.{length, length-map}
+use lib.ListN.{length, take}
 use lib.Seq.{length-take-le}
 use borrow.Author.Needs.{needs}
 use borrow.Author.Tests.{not-false, not-true}
-use Rattle.prefix.proofs.Places.{taken}
-use Rattle.walk.proofs.FitSteps.{at-down, at-down-to, at-ended, at-given, at-given-not, at-up, at-up-high, at-up-low, fit-as, is-necklace, whole-row}
-use Rattle.walk.proofs.Runs.{given}
+use Rattle.prefix.proofs.Places.{symbols-take}
+use Rattle.prefix.specs.Carried.{Knows}
+use Rattle.prefix.specs.declared.carried.Known.{Known}
+use Rattle.walk.proofs.FitSteps.{at-down, at-down-to, at-ended, at-given, at-given-not, at-up, at-up-high, at-up-low, fit-as, is-necklace}
+use Rattle.walk.specs.Course.{before}
 use Rattle.walk.specs.Fit.{fitAt}
+use Rattle.walk.specs.Moves.{rowOf}
+use Rattle.walk.specs.declared.Standing.{Standing}
 use Rattle.walk.specs.declared.Standing.the-variants.{Down, Ended, Given, Limit, Up}
 use Rattle.walk.proofs.Walk.fit_at.Statement.{statement}
 use Rattle.walk.proofs.Walk.fit_at.Tie as tie
 
--- the row has 64 symbols, since it is an array of 64
-row-64 : (c : tie.Start) → length (c .args .self .row) ≡ 64
-row-64 c = rw length-map at (c .good .0 .1 .1 .1 .1 .1 .0 .1 .0 .1)
+module _ (s : tie.Start) where
+  row-64 : length (s .args .self .row) ≡ 64
+  row-64 = search needs
+
+  inside : s .args .self .n ≤ length (s .args .self .row)
+  inside = omega (arith, row-64, s .pre .0 .most)
+
+  whole : length (rowOf (s .args .self)) ≡ s .args .self .n
+  whole = length-take-le (s .args .self .n) (s .args .self .row) inside
+
+  -- what is known where it stands
+  known-at : (at : Standing) → s .args .self .at ≡ at → before at (s .args .self .n) ≤ s .args .self .n → Knows (take (before at (s .args .self .n)) (s .args .self .row)) (s .args .known)
+  known-at at e h =
+      subst (λ t. Knows (take (before t (s .args .self .n)) (s .args .self .row)) (s .args .known)) e
+      (s .pre .1 (subst (λ t. before t (s .args .self .n) ≤ s .args .self .n) (sym e) h))
 
 returns : tie.Need-returns
 returns c = fit-as _ (Down _) (c .before .before .at .given .1) (sym (at-down _ _ (c .if1 .taken)))
@@ -26,21 +43,40 @@ returns-2 c = fit-as _ (Up _) (c .before .before .at2 .given .1) (sym (at-up-low
 returns-3 : tie.Need-returns-3
 returns-3 c = fit-as _ (Up _) (c .before .before .before .at2 .given .1) (sym (at-up-high _ _ (c .before .if2 .left) (c .if3 .taken)))
 
-begins-necklace-requires : tie.Need-begins-necklace-requires
-begins-necklace-requires c κs =
-    let f = c .before .before .before .before .before .before .pre in
-    (f .most, f .dense, omega (arith, c .if3 .left), f .symbols, f .some)
+begins-requires : tie.Need-begins-requires
+begins-requires c κs =
+    let s = c .before .before .before .before .before .before in
+    let f = s .pre .0 in
+    (f .some, f .most, f .dense, omega (arith, c .if3 .left), f .symbols, known-at s (Up _) (c .before .before .before .at2 .given .1) (omega (arith, c .if3 .left)))
 
-is-member-requires : tie.Need-is-member-requires
-is-member-requires c κs = let s = c .before .before .before .before in whole-row (s .args .self) (s .pre) (row-64 s)
+array-share-prefix-row : tie.Need-array-share-prefix-row
+array-share-prefix-row c = inside (c .before .before .before)
+
+slice-aggregate-is-necklace-of : tie.Need-slice-aggregate-is-necklace-of
+slice-aggregate-is-necklace-of c = sym (whole (c .before .before .before .before))
+
+-- the whole row is known
+known-row : (c : tie.After-enum-told2) → Knows (rowOf (c .before .before .before .args .self)) (c .before .before .before .args .known)
+known-row c = let s = c .before .before .before in known-at s Given (c .enum-told2 .given .1) (omega arith)
+
+is-necklace-of-requires : tie.Need-is-necklace-of-requires
+is-necklace-of-requires c κs =
+    let s = c .before .before .before .before in
+    (omega (arith, whole s, s .pre .0 .some), symbols-take (s .args .self .n) (s .args .self .row) (s .pre .0 .symbols), known-row (c .before))
 
 returns-4 : tie.Need-returns-4
-returns-4 c = fit-as _ Given (c .before .before .before .enum-told2 .given .1) (sym (at-given-not _ (sym (c .before .is-member .ensures) ∙ not-true _ (c .if4 .taken))))
+returns-4 c = fit-as _ Given (c .before .before .before .enum-told2 .given .1) (sym (at-given-not _ (sym (c .before .is-necklace-of .ensures) ∙ not-true _ (c .if4 .taken))))
 
-of-kind-requires : tie.Need-of-kind-requires
-of-kind-requires c κs =
+array-share-prefix-row-2 : tie.Need-array-share-prefix-row-2
+array-share-prefix-row-2 c = inside (c .before .before .before .before .before .before)
+
+slice-aggregate-is-of-kind : tie.Need-slice-aggregate-is-of-kind
+slice-aggregate-is-of-kind c = sym (whole (c .before .before .before .before .before .before .before))
+
+is-of-kind-requires : tie.Need-is-of-kind-requires
+is-of-kind-requires c κs =
     let s = c .before .before .before .before .before .before .before in
-    (whole-row (s .args .self) (s .pre) (row-64 s) .0, is-necklace (s .args .self .d) _ (sym (c .before .before .is-member .ensures) ∙ not-false _ (c .before .if4 .left)))
+    (omega (arith, whole s, s .pre .0 .some), is-necklace (s .args .self .d) _ (sym (c .before .before .is-necklace-of .ensures) ∙ not-false _ (c .before .if4 .left)), known-row (c .before .before .before .before))
 
 returns-5 : tie.Need-returns-5
 unfolding fitAt
@@ -50,10 +86,12 @@ returns-6 : tie.Need-returns-6
 returns-6 c = fit-as _ (Down _) (c .before .before .at .given .1) (at-down-to _ _ (c .if1 .left))
 
 returns-7 : tie.Need-returns-7
-returns-7 c = fit-as _ (Up _) (c .before .before .before .before .at2 .given .1) (c .begins-necklace .ensures ∙ at-up _ _ (c .before .before .if2 .left) (c .before .if3 .left))
+returns-7 c = fit-as _ (Up _) (c .before .before .before .before .at2 .given .1) (c .«begins» .ensures ∙ at-up _ _ (c .before .before .if2 .left) (c .before .if3 .left))
 
 returns-8 : tie.Need-returns-8
-returns-8 c = fit-as _ Given (c .before .before .before .before .before .enum-told2 .given .1) (c .of-kind .ensures ∙ at-given _ (sym (c .before .before .before .is-member .ensures) ∙ not-false _ (c .before .before .if4 .left)))
+returns-8 c =
+    fit-as _ Given (c .before .before .before .before .before .enum-told2 .given .1)
+    (c .is-of-kind .ensures ∙ at-given _ (sym (c .before .before .before .is-necklace-of .ensures) ∙ not-false _ (c .before .before .if4 .left)))
 
 returns-9 : tie.Need-returns-9
 returns-9 c = fit-as _ Ended (c .before .before .enum-told3 .given .1) (at-ended _ (c .highest .result) (c .highest .ensures))
@@ -69,15 +107,15 @@ fit-at-spec =
     returns-2
     returns-3
     (λ c. search needs)
-    begins-necklace-requires
+    begins-requires
     (λ c. search needs)
-    (λ c. omega (arith, row-64 (c .before .before .before), c .before .before .before .pre .most))
-    (λ c. sym (length-take-le _ _ (omega (arith, row-64 (c .before .before .before .before), c .before .before .before .before .pre .most))))
-    is-member-requires
+    array-share-prefix-row
+    slice-aggregate-is-necklace-of
+    is-necklace-of-requires
     returns-4
-    (λ c. omega (arith, row-64 (c .before .before .before .before .before .before), c .before .before .before .before .before .before .pre .most))
-    (λ c. sym (length-take-le _ _ (omega (arith, row-64 (c .before .before .before .before .before .before .before), c .before .before .before .before .before .before .before .pre .most))))
-    of-kind-requires
+    array-share-prefix-row-2
+    slice-aggregate-is-of-kind
+    is-of-kind-requires
     (λ c. search needs)
     (λ c. search needs)
     (λ c κs. search needs)

@@ -1,167 +1,137 @@
 -- `walk::Walk::step` meets its contract.
-use mathlib.Core.Path.{ap, sym, _∙_, _≡_}
+use mathlib.Core.Path.{ap, refl, sym, _∙_, _≡_}
+use Prim.Native.Nat.{ℕ, _≤_}
 use native.Mathlib.Omega.{arith}
-use lib.ListN.{length, length-map}
+use lib.ListN.{length, take}
 use lib.Seq.{length-take-le}
 use borrow.Author.Needs.{needs}
 use borrow.Author.Tests.{not-false, not-true}
-use Rattle.prefix.proofs.Places.{taken}
-use Rattle.prefix.specs.Search.{fits}
-use Rattle.walk.proofs.FitSteps.{whole-row}
-use Rattle.walk.proofs.Going.{Going, down-resumed, down-within, going-first, going-fitting, going-long, turn-ended, turn-given, turn-limit, turn-none, turn-ring, turn-spent, turn-struck, turn-tried, unfit-step, up-member, up-resumed, up-within}
-use Rattle.walk.proofs.Onward.{walkOf}
-use Rattle.walk.proofs.Runs.{given}
-use Rattle.walk.proofs.Stands.{size}
+use Rattle.walk.proofs.FitSteps.{fit-no-record, fit-so-far, record-fitting}
+use Rattle.walk.proofs.StepLoop.{Going, going-first, turn-again, turn-fits, turn-inside, turn-length, turn-less, turn-long, turn-says, turn-symbols, unfit-step}
+use Rattle.walk.specs.Course.{Fitting, Resumes, size}
 use Rattle.walk.specs.Fit.{fit}
-use Rattle.walk.specs.declared.Standing.the-variants.{Down, Up}
-use Rattle.words.proofs.Rotations.{→isNecklace}
+use Rattle.walk.specs.Moves.{moved, rowOf, rules}
+use Rattle.walk.specs.Step.{stepDue, stepNumbers, stepOf}
+use Rattle.walk.specs.declared.Reached.{Reached}
+use Rattle.walk.specs.declared.Said.the-variants.{Nothing}
+use Rattle.walk.specs.declared.Stepped.{Stepped}
+use Rattle.walk.specs.declared.Walk.{Walk}
 use Rattle.walk.proofs.Walk.step.Statement.{statement}
 use Rattle.walk.proofs.Walk.step.Tie as tie
 
 abbrev Inv-loop : tie.InvT-loop
-Inv-loop allowance n d kind row₀ at₀ left₀ row at left = Going allowance (walkOf n d kind row₀ at₀) n d kind row at left
+Inv-loop w allowance n row₀ at₀ left₀ prefixes₀ known₀ row at left prefixes known = Going w allowance prefixes row at left known
 
 abbrev μ-loop : tie.MeasureT-loop
-μ-loop allowance n d kind row₀ at₀ left₀ row at left = size (walkOf n d kind row at)
+μ-loop w allowance n row₀ at₀ left₀ prefixes₀ known₀ row at left prefixes known = size (moved w row at)
 
--- the row has 64 symbols, since it is an array of 64
-row-64 : (c : tie.Start Inv-loop μ-loop) → length (c .args .self .row) ≡ 64
-row-64 c = rw length-map at (c .good .0 .1 .1 .1 .1 .1 .0 .1 .0 .1)
+-- the right answer has the right numbers
+due : (w : Walk) (a : ℕ) (r : Stepped) → r ≡ stepOf rules w a → (r ≡ stepOf rules w a) × (stepNumbers r ≡ stepDue rules w a)
+due w a r e = (e, ap stepNumbers e)
 
 returns : tie.Need-returns Inv-loop μ-loop
-returns c = unfit-step _ _ (sym (c .before .fit .ensures) ∙ not-true _ (c .if1 .taken))
+returns c =
+    let s = c .before .before .before in
+    due _ _ _ (c .unfit .ensures ∙ unfit-step (s .args .allowance) (s .args .self) (fit-no-record (s .args .self) (sym (c .before .before .fit-record .ensures) ∙ not-true _ (c .before .if1 .taken))))
 
-loop-holds : tie.Need-loop-holds Inv-loop μ-loop
-loop-holds c = going-first _ _ (sym (c .before .before .fit .ensures) ∙ not-false _ (c .before .if1 .left)) (row-64 (c .before .before .before))
+-- the record's sizes and symbols are fit
+module _ (c : tie.Else1 Inv-loop μ-loop) where
+  abbrev start : tie.Start Inv-loop μ-loop
+  start = c .before .before
 
--- ---- Limit
+  row-64 : length (start .args .self .row) ≡ 64
+  row-64 = search needs
 
-slice-aggregate-from-limit : tie.Need-slice-aggregate-from-limit Inv-loop μ-loop
-slice-aggregate-from-limit c = let g = c .before .before .before .loop .inv in sym (length-take-le _ _ (omega (arith, going-long g, g .sound .most)))
+  fitting : Fitting (start .args .self)
+  fitting = record-fitting (start .args .self) (sym (c .before .fit-record .ensures) ∙ not-false _ (c .if1 .left))
 
-from-limit-requires : tie.Need-from-limit-requires Inv-loop μ-loop
-from-limit-requires c κs = let g = c .before .before .before .loop .inv in let w = whole-row _ (going-fitting g) (going-long g) in (g .sound .most, w .0, w .1, w .2)
+  inside : start .args .self .n ≤ length (start .args .self .row)
+  inside = omega (arith, row-64, fitting .most)
 
-loop-less : tie.Need-loop-less Inv-loop μ-loop
-loop-less c = turn-limit (c .before .before .before .before .loop .inv) (c .before .before .enum-told .given .1) _ (c .from-limit .ensures) .1
+  whole : length (rowOf (start .args .self)) ≡ start .args .self .n
+  whole = length-take-le (start .args .self .n) (start .args .self .row) inside
 
-loop-again : tie.Need-loop-again Inv-loop μ-loop
-loop-again c = turn-limit (c .before .before .before .before .loop .inv) (c .before .before .enum-told .given .1) _ (c .from-limit .ensures) .0
+array-share-prefix-row : tie.Need-array-share-prefix-row Inv-loop μ-loop
+array-share-prefix-row c = inside (c .before)
 
--- ---- Down p
+slice-aggregate-prefixes-of : tie.Need-slice-aggregate-prefixes-of Inv-loop μ-loop
+slice-aggregate-prefixes-of c = sym (whole (c .before .before))
 
-sub-answered : tie.Need-sub-answered Inv-loop μ-loop
-sub-answered c = c .before .before .before .before .loop .inv .fits
+prefixes-of-requires : tie.Need-prefixes-of-requires Inv-loop μ-loop
+prefixes-of-requires c κs = omega (arith, whole (c .before .before), fitting (c .before .before) .most)
+
+known-requires : tie.Need-known-requires Inv-loop μ-loop
+known-requires c κs = (fitting (c .before .before .before .before), c .before .prefixes-of .ensures)
+
+fit-at-requires : tie.Need-fit-at-requires Inv-loop μ-loop
+fit-at-requires c κs = (fitting (c .before .before .before .before .before), c .known .ensures)
+
+-- the whole test
+tested : (c : tie.After-fit-at Inv-loop μ-loop) → c .fit-at .result ≡ fit rules (start (c .before .before .before .before .before .before) .args .self)
+tested c = let e = c .before .before .before .before .before .before in c .fit-at .ensures ∙ fit-so-far (start e .args .self) (sym (e .before .fit-record .ensures) ∙ not-false _ (e .if1 .left))
 
 returns-2 : tie.Need-returns-2 Inv-loop μ-loop
-returns-2 c = c .answered .ensures ∙ turn-none (c .before .before .before .before .before .loop .inv) (c .before .before .before .at .given .1 ∙ ap Down (c .before .if2 .taken))
+returns-2 c =
+    let e = c .before .before .before .before .before .before .before .before in
+    due _ _ _ (c .unfit2 .ensures ∙ unfit-step (start e .args .allowance) (start e .args .self) (sym (tested (c .before .before)) ∙ not-true _ (c .before .if2 .taken)))
 
-descend-requires : tie.Need-descend-requires Inv-loop μ-loop
-descend-requires c κs =
-    let g = c .before .before .before .before .loop .inv in
-    (down-within g _ (c .before .before .at .given .1), g .sound .most, g .sound .dense, going-fitting g .symbols)
+loop-holds : tie.Need-loop-holds Inv-loop μ-loop
+loop-holds c =
+    let e = c .before .before .before .before .before .before .before in
+    going-first (start e .args .allowance) (start e .args .self) (sym (tested (c .before)) ∙ not-false _ (c .if2 .left)) (row-64 e) _ _ (c .before .before .before .before .prefixes-of .ensures) (c .before .before .known .ensures)
 
-sub-answered-2 : tie.Need-sub-answered-2 Inv-loop μ-loop
-sub-answered-2 c =
-    let g = c .before .before .before .before .before .before .before .loop .inv in
-    let e = c .before .before .before .before .before .at .given .1 in
-    let r = down-resumed g _ e (omega (arith, c .before .before .before .if2 .left)) _ (c .before .before .descend .ensures) in
-    omega (arith, r .left, g .fits)
+go-on-requires : tie.Need-go-on-requires Inv-loop μ-loop
+go-on-requires c κs = let g = c .before .loop .inv in (g .ready, g .table, g .knows)
+
+-- the answer
+sub-t29 : tie.Need-sub-t29 Inv-loop μ-loop
+sub-t29 c = turn-fits (c .before .before .before .before .before .before .loop .inv) _ (c .before .before .before .before .go-on .ensures)
 
 returns-3 : tie.Need-returns-3 Inv-loop μ-loop
-returns-3 c =
-    let g = c .before .before .before .before .before .before .before .before .loop .inv in
-    let e = c .before .before .before .before .before .before .at .given .1 in
-    let r = down-resumed g _ e (omega (arith, c .before .before .before .before .if2 .left)) _ (c .before .before .before .descend .ensures) in
-    c .answered2 .ensures ∙ turn-spent g (Down _) e _ r (c .before .if3 .taken)
+returns-3 c = due _ _ _ (turn-says (c .before .before .before .before .before .before .loop .inv) _ (c .before .before .before .before .go-on .ensures) _ (c .before .said .given .1))
 
-loop-less-2 : tie.Need-loop-less-2 Inv-loop μ-loop
-loop-less-2 c =
-    let g = c .before .before .before .before .before .before .before .loop .inv in
-    let e = c .before .before .before .before .before .at .given .1 in
-    let r = down-resumed g _ e (omega (arith, c .before .before .before .if2 .left)) _ (c .before .before .descend .ensures) in
-    turn-tried g (Down _) e _ r (c .if3 .left) .1
+-- a ring of another kind
+module _ (c : tie.After-enum-told Inv-loop μ-loop) where
+  abbrev here : tie.At-loop Inv-loop μ-loop
+  here = c .before .before .before .before .before
 
-loop-again-2 : tie.Need-loop-again-2 Inv-loop μ-loop
-loop-again-2 c =
-    let g = c .before .before .before .before .before .before .before .loop .inv in
-    let e = c .before .before .before .before .before .at .given .1 in
-    let r = down-resumed g _ e (omega (arith, c .before .before .before .if2 .left)) _ (c .before .before .descend .ensures) in
-    turn-tried g (Down _) e _ r (c .if3 .left) .0
+  abbrev reached : Reached
+  reached = c .before .before .before .go-on .result
 
--- ---- Up p, beyond n
+  abbrev resumes : Resumes (moved (start (here .before .before .before .before .before .before .before .before) .args .self) (here .loop .row) (here .loop .at)) (here .loop .left) reached
+  resumes = c .before .before .before .go-on .ensures
 
-slice-aggregate-of-kind : tie.Need-slice-aggregate-of-kind Inv-loop μ-loop
-slice-aggregate-of-kind c = let g = c .before .before .before .before .before .loop .inv in sym (length-take-le _ _ (omega (arith, going-long g, g .sound .most)))
+  nothing : reached .said ≡ Nothing
+  nothing = c .enum-told .given .1
 
-of-kind-requires : tie.Need-of-kind-requires Inv-loop μ-loop
-of-kind-requires c κs =
-    let g = c .before .before .before .before .before .loop .inv in
-    (whole-row _ (going-fitting g) (going-long g) .0, →isNecklace _ (up-member g _ (c .before .before .before .at2 .given .1) (c .before .if4 .taken) .least))
+  struck-length : length (take (start (here .before .before .before .before .before .before .before .before) .args .self .n) (reached .row)) ≡ start (here .before .before .before .before .before .before .before .before) .args .self .n
+  struck-length = turn-length (here .loop .inv) reached resumes nothing
 
-sub-answered-3 : tie.Need-sub-answered-3 Inv-loop μ-loop
-sub-answered-3 c = c .before .before .before .before .before .before .before .loop .inv .fits
+array-share-prefix-row-2 : tie.Need-array-share-prefix-row-2 Inv-loop μ-loop
+array-share-prefix-row-2 c = let g = here c .loop .inv in omega (arith, turn-inside g _ (resumes c) (nothing c), turn-long g _ (resumes c) (nothing c))
 
-returns-4 : tie.Need-returns-4 Inv-loop μ-loop
-returns-4 c = c .answered3 .ensures ∙ turn-ring (c .before .before .before .before .before .before .before .before .loop .inv) _ (c .before .before .before .before .before .before .at2 .given .1) (c .before .before .before .before .if4 .taken) (sym (c .before .before .of-kind .ensures) ∙ c .before .if5 .taken)
+slice-aggregate-prefixes-of-2 : tie.Need-slice-aggregate-prefixes-of-2 Inv-loop μ-loop
+slice-aggregate-prefixes-of-2 c = sym (struck-length (c .before))
 
-loop-less-3 : tie.Need-loop-less-3 Inv-loop μ-loop
-loop-less-3 c = turn-struck (c .before .before .before .before .before .before .before .loop .inv) _ (c .before .before .before .before .before .at2 .given .1) (c .before .before .before .if4 .taken) (sym (c .before .of-kind .ensures) ∙ c .if5 .left) .1
+prefixes-of-requires-2 : tie.Need-prefixes-of-requires-2 Inv-loop μ-loop
+prefixes-of-requires-2 c κs = let e = c .before in omega (arith, struck-length e, turn-inside (here e .loop .inv) _ (resumes e) (nothing e))
 
-loop-again-3 : tie.Need-loop-again-3 Inv-loop μ-loop
-loop-again-3 c = turn-struck (c .before .before .before .before .before .before .before .loop .inv) _ (c .before .before .before .before .before .at2 .given .1) (c .before .before .before .if4 .taken) (sym (c .before .of-kind .ensures) ∙ c .if5 .left) .0
+array-share-prefix-row-3 : tie.Need-array-share-prefix-row-3 Inv-loop μ-loop
+array-share-prefix-row-3 c = array-share-prefix-row-2 (c .before .before .before)
 
--- ---- Up p, up to n
+slice-aggregate-read : tie.Need-slice-aggregate-read Inv-loop μ-loop
+slice-aggregate-read c = sym (struck-length (c .before .before .before .before))
 
-ascend-requires : tie.Need-ascend-requires Inv-loop μ-loop
-ascend-requires c κs =
-    let g = c .before .before .before .before .loop .inv in
-    let u = up-within g _ (c .before .before .at2 .given .1) in
-    (u .0, u .1, g .sound .most, g .sound .dense, going-fitting g .symbols)
+read-requires : tie.Need-read-requires Inv-loop μ-loop
+read-requires c κs =
+    let e = c .before .before .before .before in
+    (omega (arith, struck-length e, turn-inside (here e .loop .inv) _ (resumes e) (nothing e)), turn-symbols (here e .loop .inv) _ (resumes e) (nothing e), c .before .before .prefixes-of2 .ensures)
 
-sub-answered-4 : tie.Need-sub-answered-4 Inv-loop μ-loop
-sub-answered-4 c =
-    let g = c .before .before .before .before .before .before .before .loop .inv in
-    let e = c .before .before .before .before .before .at2 .given .1 in
-    let r = up-resumed g _ e (c .before .before .before .if4 .left) _ (c .before .before .ascend .ensures) in
-    omega (arith, r .left, g .fits)
+loop-less : tie.Need-loop-less Inv-loop μ-loop
+loop-less c = let e = c .before .before .before .before .before in turn-less (here e .loop .inv) _ (resumes e) (nothing e)
 
-returns-5 : tie.Need-returns-5 Inv-loop μ-loop
-returns-5 c =
-    let g = c .before .before .before .before .before .before .before .before .loop .inv in
-    let e = c .before .before .before .before .before .before .at2 .given .1 in
-    let r = up-resumed g _ e (c .before .before .before .before .if4 .left) _ (c .before .before .before .ascend .ensures) in
-    c .answered4 .ensures ∙ turn-spent g (Up _) e _ r (c .before .if6 .taken)
-
-loop-less-4 : tie.Need-loop-less-4 Inv-loop μ-loop
-loop-less-4 c =
-    let g = c .before .before .before .before .before .before .before .loop .inv in
-    let e = c .before .before .before .before .before .at2 .given .1 in
-    let r = up-resumed g _ e (c .before .before .before .if4 .left) _ (c .before .before .ascend .ensures) in
-    turn-tried g (Up _) e _ r (c .if6 .left) .1
-
-loop-again-4 : tie.Need-loop-again-4 Inv-loop μ-loop
-loop-again-4 c =
-    let g = c .before .before .before .before .before .before .before .loop .inv in
-    let e = c .before .before .before .before .before .at2 .given .1 in
-    let r = up-resumed g _ e (c .before .before .before .if4 .left) _ (c .before .before .ascend .ensures) in
-    turn-tried g (Up _) e _ r (c .if6 .left) .0
-
--- ---- Given
-
-loop-less-5 : tie.Need-loop-less-5 Inv-loop μ-loop
-loop-less-5 c = turn-given (c .before .before .before .before .loop .inv) (c .before .before .enum-told2 .given .1) _ (c .before .below .ensures) .1
-
-loop-again-5 : tie.Need-loop-again-5 Inv-loop μ-loop
-loop-again-5 c = turn-given (c .before .before .before .before .loop .inv) (c .before .before .enum-told2 .given .1) _ (c .before .below .ensures) .0
-
--- ---- Ended
-
-sub-answered-5 : tie.Need-sub-answered-5 Inv-loop μ-loop
-sub-answered-5 c = c .before .before .loop .inv .fits
-
-returns-6 : tie.Need-returns-6 Inv-loop μ-loop
-returns-6 c = c .answered5 .ensures ∙ turn-ended (c .before .before .before .loop .inv) (c .before .enum-told3 .given .1)
+loop-again : tie.Need-loop-again Inv-loop μ-loop
+loop-again c = let e = c .before .before .before .before .before in turn-again (here e .loop .inv) _ (resumes e) (nothing e) _ _ (c .before .before .before .prefixes-of2 .ensures) (c .read .ensures)
 
 pub step-spec : {M : Type 1} → statement M
 step-spec =
@@ -170,44 +140,26 @@ step-spec =
     Inv-loop
     μ-loop
     (λ c κs. search needs)
+    (λ c κs. search needs)
     returns
-    loop-holds
-    (λ c. search needs)
-    (λ c. search needs)
-    slice-aggregate-from-limit
-    from-limit-requires
-    loop-less
-    loop-again
-    (λ c. search needs)
-    sub-answered
+    array-share-prefix-row
+    slice-aggregate-prefixes-of
+    prefixes-of-requires
+    known-requires
+    fit-at-requires
     (λ c κs. search needs)
     returns-2
-    descend-requires
-    sub-answered-2
-    (λ c κs. search needs)
+    loop-holds
+    go-on-requires
+    (λ c. search needs)
+    sub-t29
     returns-3
-    loop-less-2
-    loop-again-2
     (λ c. search needs)
-    (λ c. search needs)
-    slice-aggregate-of-kind
-    of-kind-requires
-    sub-answered-3
-    (λ c κs. search needs)
-    returns-4
-    loop-less-3
-    loop-again-3
-    ascend-requires
-    sub-answered-4
-    (λ c κs. search needs)
-    returns-5
-    loop-less-4
-    loop-again-4
-    (λ c. search needs)
-    (λ c κs. search needs)
-    loop-less-5
-    loop-again-5
-    (λ c. search needs)
-    sub-answered-5
-    (λ c κs. search needs)
-    returns-6)
+    array-share-prefix-row-2
+    slice-aggregate-prefixes-of-2
+    prefixes-of-requires-2
+    array-share-prefix-row-3
+    slice-aggregate-read
+    read-requires
+    loop-less
+    loop-again)

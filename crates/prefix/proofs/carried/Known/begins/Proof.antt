@@ -1,0 +1,86 @@
+-- `prefix::carried::Known::begins` meets its contract.
+use mathlib.Core.List.{List, []}
+use mathlib.Core.Path.{ap, sym, _∙_, _≡_}
+use Prim.Native.Nat.{ℕ, _-_, _<_, _≤_}
+use native.Mathlib.Nat.{pos-of-ne-zero}
+use native.Mathlib.Omega.{arith}
+use lib.ListN.{length, take}
+use lib.Seq.{length-take-le}
+use borrow.Author.Needs.{needs}
+use Rattle.density.proofs.Binary.{binary-sum}
+use Rattle.density.specs.Necklaces.{begins}
+use Rattle.prefix.proofs.Begun.{begins-empty}
+use Rattle.prefix.proofs.Places.{asks-none, asks-period, symbols-binary, symbols-take}
+use Rattle.prefix.proofs.Search.{asks-begins}
+use Rattle.prefix.specs.Search.{Symbols, asks, continues}
+use Rattle.words.specs.Symbols.{sum}
+use Rattle.prefix.proofs.carried.Known.begins.Statement.{statement}
+use Rattle.prefix.proofs.carried.Known.begins.Tie as tie
+
+-- the first t symbols
+abbrev begun : tie.Start → List ℕ
+begun c = take (c .args .t) (c .args .t4)
+
+module _ (c : tie.Start) where
+  begun-length : length (begun c) ≡ c .args .t
+  begun-length = let l : length (c .args .t4) ≡ 64 = search needs in length-take-le (c .args .t) (c .args .t4) (omega arith)
+
+  begun-symbols : Symbols (begun c)
+  begun-symbols = symbols-take (c .args .t) (c .args .t4) (c .pre .4)
+
+  -- what the contract asks, by the search
+  asked : begins (c .args .n) (c .args .d) (begun c) ≡ asks (c .args .n) (c .args .d) (begun c)
+  asked = sym (asks-begins (c .args .n) (c .args .d) (begun c) (c .pre .0) (c .pre .2) (omega (arith, begun-length, c .pre .3)) (symbols-binary (begun c) begun-symbols))
+
+returns : tie.Need-returns
+returns c =
+    let a = c .before .args in
+    sym (ap (λ t. begins (a .n) (a .d) (take t (a .t4))) (c .if1 .taken) ∙ begins-empty (a .n) (a .d) (c .before .pre .0) (c .before .pre .2))
+
+returns-2 : tie.Need-returns-2
+returns-2 c =
+    let s = c .before .before in
+    let some : 0 < length (begun s) = omega (arith, begun-length s, pos-of-ne-zero (c .before .if1 .left)) in
+    sym (asked s ∙ asks-none (s .args .n) (s .args .d) (begun s) some (rw (c .if2 .taken) at (s .pre .5 .scans some)))
+
+slice-aggregate-ruled-out : tie.Need-slice-aggregate-ruled-out
+slice-aggregate-ruled-out c = sym (begun-length (c .before .before .before))
+
+ruled-out-requires : tie.Need-ruled-out-requires
+ruled-out-requires c κs =
+    let s = c .before .before .before in
+    (s .pre .1, s .pre .2, omega (arith, begun-length s, s .pre .3), s .pre .5 .sums, s .pre .5 .leads, begun-symbols s)
+
+returns-3 : tie.Need-returns-3
+returns-3 c = sym (c .before .ruled-out .ensures (c .if3 .taken))
+
+search-from-requires : tie.Need-search-from-requires
+search-from-requires c κs =
+    let s = c .before .before .before .before .before in
+    let v = s .pre .5 in
+    let size = begun-length s in
+    let few : sum (begun s) ≤ length (begun s) = binary-sum (symbols-binary (begun s) (begun-symbols s)) in
+    (pos-of-ne-zero (c .before .before .before .if2 .left), omega (arith, v .within, size), s .pre .3, s .pre .1, v .sums, omega (arith, v .sums, few, size), s .pre .4, v .leads)
+
+returns-4 : tie.Need-returns-4
+returns-4 c =
+    let s = c .before .before .before .before .before .before in
+    let a = s .args in
+    let some : 0 < length (begun s) = omega (arith, begun-length s, pos-of-ne-zero (c .before .before .before .before .before .if1 .left)) in
+    c .search-from .ensures
+    ∙ sym
+    (asked s ∙ asks-period (a .n) (a .d) (a .self .period) (begun s) some (pos-of-ne-zero (c .before .before .before .before .if2 .left)) (s .pre .5 .scans some)
+    ∙ ap (λ k. continues (a .d) (a .self .period) (a .n - k) (begun s)) (begun-length s))
+
+pub begins-spec : {M : Type 1} → statement M
+begins-spec =
+    tie.close
+    (tie.spec
+    returns
+    returns-2
+    (λ c. search needs)
+    slice-aggregate-ruled-out
+    ruled-out-requires
+    returns-3
+    search-from-requires
+    returns-4)

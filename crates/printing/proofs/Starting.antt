@@ -1,0 +1,102 @@
+-- What a printing that was started has to print is the program's text.
+use mathlib.Core.Bool.{Bool, cond, false, true}
+use mathlib.Core.List.{List, _++_}
+use mathlib.Core.Path.{ap, refl, _≡_}
+use Prim.Native.Nat.{suc, zero, ℕ, _*_, _+_, _-_, _≤_}
+use native.Mathlib.Omega.{arith}
+use lib.Dec.{eqb, leb, ltb}
+use lib.ListN.{length}
+use borrow.Author.Tests.{le-leb, lt-ltb, ltb-false}
+use Rattle.density.specs.Necklaces.{isKind, ofKind}
+use Rattle.drawer_text.specs.Lines.{header, refusalText}
+use Rattle.printing.proofs.Numbers.{numbered}
+use Rattle.printing.specs.Left.{highest64, left, linesLeft, ringsLeft}
+use Rattle.printing.specs.NextLine.{printing}
+use Rattle.printing.specs.Text.{askedText, linesText, openedText}
+use Rattle.printing.specs.declared.Due.the-variants.{Header}
+use Rattle.refusal.specs.Verdicts.{Verdict, accepted, areStations, need, refused}
+use Rattle.refusal.specs.declared.Refusal.{Refusal}
+use Rattle.refusal.specs.declared.Refusal.the-variants.{Holes, Kind, Stations, Symbol, Limit as LimitLength}
+use Rattle.walk.proofs.Demand.{Admitted, accepted-opening, fresh-fit, fresh-stands}
+use Rattle.walk.proofs.Plenty.{opened-underway}
+use Rattle.walk.proofs.Strikes.{Closed, last, line, listing-closed}
+use Rattle.walk.specs.Listing.{Listing, listing}
+use Rattle.walk.specs.Moves.{rules}
+use Rattle.walk.specs.Opening.{fresh, openAnswer, openVerdict}
+use Rattle.walk.specs.Totals.{AtMost, and-then, ringsOf}
+use Rattle.walk.specs.declared.OpenAnswer.the-variants.{NotOpen, Open}
+use Rattle.walk.specs.declared.Opened.{Opened}
+use Rattle.words.specs.Symbols.{firstWrong}
+
+-- a book whose prices and numbers fit is printed to its end
+lines-same : (b k : ℕ) {l : Listing} → Closed l → AtMost b l → b ≤ highest64 → k + length (ringsOf l) ≤ highest64 → linesLeft k l ≡ linesText k l
+unfolding linesLeft linesText ringsOf
+lines-same b k (last {p = p}) (and-then q m) h n = rw (le-leb p highest64 (omega arith))
+lines-same b k (line {r = r} {p = p} {l = l} c) (and-then q m) h n =
+    let f = lines-same b (k + 1) c m h (omega arith) in
+    rw (le-leb p highest64 (omega arith), lt-ltb k highest64 (omega arith), f)
+
+-- an accepted opening
+opened-lines : (n d kind : ℕ) (limit : List ℕ) → Admitted rules n d kind limit → ringsLeft 0 (fresh rules n d kind limit) ≡ linesText 0 (listing n d (ofKind kind) limit)
+unfolding ringsLeft
+opened-lines n d kind limit o =
+    let e = fresh-stands rules n d kind limit o in
+    let u = opened-underway n d kind limit o in
+    let c = listing-closed n d (ofKind kind) limit in
+    rw (fresh-fit rules n d kind limit o .test, e)
+    (lines-same (4 * n - 2) 0 c (rw e at (u .few)) (omega (arith, o .most)) (omega (arith, numbered n d kind limit o)))
+
+-- ---- a kind that no byte holds is refused as any other that is none
+
+big-kind : (kind : ℕ) → 256 ≤ kind → isKind kind ≡ false
+unfolding isKind
+big-kind zero h = absurd (omega arith)
+big-kind (suc zero) h = absurd (omega arith)
+big-kind (suc (suc zero)) h = absurd (omega arith)
+big-kind (suc (suc (suc k))) h = refl
+
+module _ (n d kind : ℕ) (limit : List ℕ) where
+  no-kind : (b c : Bool) (v : Verdict) → openedText (need b Stations (need c Holes (need false Kind v))) n d 0 limit ≡ openedText (need b Stations (need c Holes (need false Kind v))) n d kind limit
+  no-kind false c v = refl
+  no-kind true false v = refl
+  no-kind true true v = refl
+
+  big-text : isKind kind ≡ false → askedText n d 0 limit ≡ askedText n d kind limit
+  unfolding openVerdict isKind
+  big-text f = rw f (no-kind (areStations n) (leb d n) (need (eqb (length limit) n) LimitLength (need (eqb (firstWrong 2 limit) 0) (Symbol (firstWrong 2 limit)) accepted)))
+
+  pub byte-text : askedText n d (cond (ltb kind 256) kind 0) limit ≡ askedText n d kind limit
+  byte-text = go (ltb kind 256) refl
+    where
+      go : (b : Bool) → ltb kind 256 ≡ b → askedText n d (cond b kind 0) limit ≡ askedText n d kind limit
+      go true e = refl
+      go false e = big-text (big-kind kind (ltb-false kind 256 e))
+
+-- ---- what opening hands out
+
+module _ (n d kind : ℕ) (limit : List ℕ) (o : Opened) (e : o ≡ openAnswer (openVerdict n d kind limit) rules n d kind limit) where
+  pub opened-left : o .answer ≡ Open → left (printing (o .walk) 0 Header) ≡ askedText n d kind limit
+  unfolding left
+  opened-left a = go (openVerdict n d kind limit) refl
+    where
+      go : (v : Verdict) → openVerdict n d kind limit ≡ v → header ++ ringsLeft 0 (o .walk) ≡ openedText (openVerdict n d kind limit) n d kind limit
+      go accepted f =
+          let w : o .walk ≡ fresh rules n d kind limit = rw (e, f) in
+          rw (f, w) (ap {B = List ℕ} (λ t. header ++ t) (opened-lines n d kind limit (accepted-opening n d kind limit f)))
+      go (refused r) f =
+          let b : NotOpen r ≡ Open = rw (e, f) at a in
+          let z : _≡_ {A = ℕ} 0 1 = cc in
+          absurd (omega arith)
+
+  pub refused-left : (r : Refusal) → o .answer ≡ NotOpen r → refusalText r ≡ askedText n d kind limit
+  refused-left r a = go (openVerdict n d kind limit) refl
+    where
+      go : (v : Verdict) → openVerdict n d kind limit ≡ v → refusalText r ≡ openedText (openVerdict n d kind limit) n d kind limit
+      go accepted f =
+          let b : Open ≡ NotOpen r = rw (e, f) at a in
+          let z : _≡_ {A = ℕ} 0 1 = cc in
+          absurd (omega arith)
+      go (refused q) f =
+          let b : NotOpen q ≡ NotOpen r = rw (e, f) at a in
+          let c : q ≡ r = cc in
+          rw (f, c)

@@ -1,0 +1,102 @@
+-- The test of a record, as plain facts.
+use mathlib.Core.Bool.{false≢true, true, _&&_}
+use mathlib.Core.List.{List, [], _∷_}
+use mathlib.Core.Logic.{inl, inr, _⊎_}
+use mathlib.Core.Path.{refl, _≡_}
+use Prim.Native.Nat.{suc, zero, ℕ, _+_, _-_, _≤_}
+use native.Mathlib.Omega.{arith}
+use lib.Dec.{leb}
+use lib.ListN.{drop, getD, take}
+use lib.Seq.{getD-drop, length-take-le}
+use borrow.Author.Tests.{le-leb, leb-true}
+use Rattle.density.proofs.Binary.{binary-within, within-binary}
+use Rattle.density.proofs.Members.{member-test, member→, test-member, →member}
+use Rattle.density.specs.Necklaces.{begins, isKind, isNecklaceOf, ofKind}
+use Rattle.walk.specs.Course.{Sound}
+use Rattle.walk.proofs.Good.{Fit, fit-at, fit-sound, sound-fit}
+use Rattle.walk.specs.Claims.{FitMeans}
+use Rattle.walk.specs.Fit.{FitAt, FitRecord, allUpTo, fit, fitAt}
+use Rattle.walk.specs.Moves.{rowOf, rules}
+use Rattle.walk.specs.declared.Standing.{Standing}
+use Rattle.walk.specs.declared.Standing.the-variants.{Down, Ended, Given, Limit, Up}
+use Rattle.walk.specs.declared.Walk.{Walk}
+use Rattle.words.proofs.Booleans.{and→, →and}
+
+up-to→ : (b : ℕ) (x : List ℕ) → allUpTo b x ≡ true → (i : ℕ) → getD x i 0 ≤ b
+unfolding allUpTo
+up-to→ b [] e i = omega arith
+up-to→ b (y ∷ x) e zero = leb-true y b (and→ (leb y b) (allUpTo b x) e .0)
+up-to→ b (y ∷ x) e (suc i) = up-to→ b x (and→ (leb y b) (allUpTo b x) e .1) i
+
+→up-to : (b : ℕ) (x : List ℕ) → ((i : ℕ) → getD x i 0 ≤ b) → allUpTo b x ≡ true
+unfolding allUpTo
+→up-to b [] h = refl
+→up-to b (y ∷ x) h = →and (le-leb y b (h 0)) (→up-to b x (λ i. h (suc i)))
+
+-- of two kinds
+pub one-of : (kind : ℕ) → isKind kind ≡ true → (kind ≡ 1) ⊎ (kind ≡ 2)
+unfolding isKind
+one-of zero e = absurd (false≢true e)
+one-of (suc zero) e = inl refl
+one-of (suc (suc zero)) e = inr refl
+one-of (suc (suc (suc k))) e = absurd (false≢true e)
+
+is-one : (kind : ℕ) → (kind ≡ 1) ⊎ (kind ≡ 2) → isKind kind ≡ true
+unfolding isKind
+is-one kind (inl e) = rw e
+is-one kind (inr e) = rw e
+
+module _ (w : Walk) (s : Sound rules (w .n) (w .d) (w .kind) (w .row)) where
+  -- the standing, both ways
+  at→ : (p : Standing) → fitAt rules p w ≡ true → FitAt p w
+  unfolding fitAt
+  at→ Limit e = tt
+  at→ (Down p) e = let h = and→ (leb 1 p) (leb p (w .n)) e in (leb-true _ _ (h .0), leb-true _ _ (h .1))
+  at→ (Up p) e =
+      let h = and→ (leb 2 p) (leb p (w .n) && begins (w .n) (w .d) (take (p - 1) (w .row))) e in
+      let k = and→ (leb p (w .n)) (begins (w .n) (w .d) (take (p - 1) (w .row))) (h .1) in
+      (leb-true _ _ (h .0), leb-true _ _ (k .0), k .1)
+  at→ Given e =
+      let h = and→ (isNecklaceOf (w .d) (rowOf w)) (ofKind (w .kind) (rowOf w)) e in
+      (→member (test-member (length-take-le (w .n) (w .row) (omega (arith, s .most, s .long))) (s .binary) (h .0)), h .1)
+  at→ Ended e = λ i. omega (arith, up-to→ 0 (w .row) e i)
+
+  →at : (p : Standing) → FitAt p w → fitAt rules p w ≡ true
+  unfolding fitAt
+  →at Limit h = refl
+  →at (Down p) h = →and (le-leb _ _ (h .0)) (le-leb _ _ (h .1))
+  →at (Up p) h = →and (le-leb _ _ (h .0)) (→and (le-leb _ _ (h .1)) (h .2))
+  →at Given h = →and (member-test (member→ (w .n) (w .d) (rowOf w) (h .0))) (h .1)
+  →at Ended h = →up-to 0 (w .row) (λ i. omega (arith, h i))
+
+pub fit-means : FitMeans
+fit-means w long = (facts, passes)
+  where
+    facts : fit rules w ≡ true → FitRecord w
+    facts e =
+        let f : Fit rules w = record { test = e; long = long } in
+        let s = fit-sound f in
+        record {
+          some = s .some;
+          most = s .most;
+          holes = s .dense;
+          kinds = one-of (w .kind) (s .kinds);
+          symbols = binary-within (s .binary);
+          after = λ i h.
+              let m : w .n + (i - w .n) ≡ i = omega arith in
+              omega (arith, rw (getD-drop, m) at (up-to→ 0 (drop (w .n) (w .row)) (s .clean) (i - w .n)));
+          place = at→ w s (w .at) (fit-at f);
+        }
+
+    passes : FitRecord w → fit rules w ≡ true
+    passes r =
+        let s : Sound rules (w .n) (w .d) (w .kind) (w .row) = record {
+          some = r .some;
+          most = r .most;
+          dense = r .holes;
+          kinds = is-one (w .kind) (r .kinds);
+          long = long;
+          binary = within-binary (rowOf w) (r .symbols);
+          clean = →up-to 0 (drop (w .n) (w .row)) (λ i. rw getD-drop (omega (arith, r .after (w .n + i) (omega arith))));
+        } in
+        sound-fit s (→at w s (w .at) (r .place)) .test

@@ -1,0 +1,193 @@
+-- The claims on opening a walk, and on the steps that follow, hold.
+use mathlib.Core.Bool.{false≢true, true≢false}
+use mathlib.Core.List.{List, [], append-cancel-left, append-nil, _++_, _∷_}
+use mathlib.Core.Logic.{inl, inr, _↔_, _⊎_}
+use mathlib.Core.Path.{ap, refl, subst, sym, _∙_, _≡_}
+use Prim.Native.Nat.{suc, zero, ℕ, _*_, _-_}
+use native.Mathlib.Omega.{arith}
+use lib.ListN.{length}
+use Rattle.density.proofs.Binary.{binary-within}
+use Rattle.density.specs.Necklaces.{isKind, ofKind}
+use Rattle.refusal.proofs.Conditions.{Tells, accepted-exactly, at-most-tells, chain-first, equal-tells, passed, stations-tell, test}
+use Rattle.refusal.specs.Conditions.{NoStations, NoneHolds}
+use Rattle.refusal.specs.Verdicts.{accepted}
+use Rattle.walk.proofs.Bound.{kind-1-prices, starts-few}
+use Rattle.walk.proofs.Demand.{Admitted, accepted-opening, answers-agree, fresh-fit, fresh-stands, handed-stands, stays-fit}
+use Rattle.walk.proofs.FitFacts.{one-of}
+use Rattle.walk.proofs.Good.{Fit}
+use Rattle.walk.proofs.Named.{rings-listing}
+use Rattle.walk.proofs.Next.{first-ring, next-ring, rings-falling}
+use Rattle.walk.proofs.Plenty.{prices}
+use Rattle.walk.proofs.Prices.{raise-zero}
+use Rattle.walk.proofs.Remaining.{Remaining, ended→, left-few, left→said, named-left, none→, owed-few, remaining, ring→, said→left, spent→, to-come, →ended, →none, →paid, →ring, →spent}
+use Rattle.walk.proofs.Steps.{step-agrees}
+use Rattle.walk.proofs.Strikes.{Closed, listing-closed}
+use Rattle.walk.proofs.Totalled.{listing-totals, starts-alike}
+use Rattle.walk.specs.Claims.{Demand3, EndedNext, FirstRing, Kind1Trials, NamedAll, NamedFalling, NeverSpent, NeverUnfit, NextRing, NoneNext, OpenAccepts, OpenRefusals, Opening, RingNext, SpentNext, TakenAlike, TakenListed, Trials, TrialsNext, answers, bookOf, given, next, opened, wanted}
+use Rattle.walk.specs.Listing.{Listing, book, listingAnswers, listingStep, over}
+use Rattle.walk.specs.Moves.{rules}
+use Rattle.walk.specs.Opening.{NoCondition, NoKind, fresh, openAnswer, openConditions, openVerdict}
+use Rattle.walk.specs.Step.{handed}
+use Rattle.walk.specs.ToCome.{stands}
+use Rattle.walk.specs.Totals.{AtMost, SaysNone, listingLeft, named, ringsOf}
+use Rattle.words.proofs.Claims.{other-tells}
+
+-- ---- opening
+
+kind-tells : (kind : ℕ) → Tells (isKind kind) (NoKind kind)
+unfolding isKind
+kind-tells zero = (λ e. (λ z. omega arith, λ z. omega arith), λ e. absurd (false≢true e))
+kind-tells (suc zero) = (λ e. absurd (true≢false e), λ e h. h .0 refl)
+kind-tells (suc (suc zero)) = (λ e. absurd (true≢false e), λ e h. h .1 refl)
+kind-tells (suc (suc (suc k))) = (λ e. (λ z. omega arith, λ z. omega arith), λ e. absurd (false≢true e))
+
+pub open-refusals : OpenRefusals
+unfolding openVerdict
+open-refusals n d kind limit =
+    chain-first
+    (test _ (stations-tell n)
+    (λ a. test _ (at-most-tells d n)
+    (λ b. test _ (kind-tells kind)
+    (λ c. test _ (equal-tells (length limit) n)
+    (λ e. test _ (other-tells 2 limit) (λ f. passed))))))
+
+pub open-accepts : OpenAccepts
+open-accepts n d kind limit = (admits, λ c. accepted-exactly (openConditions n d kind limit) _ (open-refusals n d kind limit) .1 (none-holds c))
+  where
+    admits : openVerdict n d kind limit ≡ accepted → NoCondition n d kind limit
+    admits e =
+        let a = accepted-opening n d kind limit e in
+        record { some = a .stations; most = a .most; holes = a .dense; kinds = one-of kind (a .kinds); long = a .long; symbols = binary-within (a .binary) }
+
+    stations : NoCondition n d kind limit → NoStations n → ⊥
+    stations c (inl z) = omega (arith, c .some)
+    stations c (inr h) = omega (arith, c .most)
+
+    kinds : (kind ≡ 1) ⊎ (kind ≡ 2) → NoKind kind → ⊥
+    kinds (inl e) h = h .0 e
+    kinds (inr e) h = h .1 e
+
+    none-holds : NoCondition n d kind limit → NoneHolds (openConditions n d kind limit)
+    none-holds c = (stations c, (λ h. omega (arith, c .holes), (kinds (c .kinds), (λ h. h (c .long), (λ o. omega (arith, o .other, c .symbols (o .before) (o .inside)), tt)))))
+
+-- ---- after an opening
+
+module _ (o : Opening) where
+  admitted : Admitted rules (o .n) (o .d) (o .kind) (o .limit)
+  admitted = accepted-opening (o .n) (o .d) (o .kind) (o .limit) (o .passed)
+
+  same-walk : opened o ≡ fresh rules (o .n) (o .d) (o .kind) (o .limit)
+  same-walk = ap (λ v. openAnswer v rules (o .n) (o .d) (o .kind) (o .limit) .walk) (o .passed)
+
+  opened-fit : Fit rules (opened o)
+  opened-fit = rw same-walk (fresh-fit rules (o .n) (o .d) (o .kind) (o .limit) admitted)
+
+  opened-stands : stands rules (opened o) ≡ bookOf o
+  opened-stands = ap (stands rules) same-walk ∙ fresh-stands rules (o .n) (o .d) (o .kind) (o .limit) admitted
+
+  book-closed : Closed (bookOf o)
+  book-closed = listing-closed (o .n) (o .d) (ofKind (o .kind)) (o .limit)
+
+pub demand-3 : Demand3
+demand-3 o steps = answers-agree rules (opened o) (opened-fit o) steps ∙ ap (λ l. listingAnswers l steps) (opened-stands o)
+
+pub never-unfit : NeverUnfit
+never-unfit o steps = stays-fit rules (opened o) (opened-fit o) steps .test
+
+module _ (o : Opening) (steps : List ℕ) where
+  -- the book after these steps
+  abbrev left : Listing
+  left = listingLeft (bookOf o) steps
+
+  still : Remaining left
+  still = remaining steps (to-come (book-closed o))
+
+  next-told : (a : ℕ) → next o steps a ≡ listingStep left a .tells
+  next-told a =
+      let s = step-agrees rules (handed rules (opened o) steps) a (stays-fit rules (opened o) (opened-fit o) steps) in
+      s .tells ∙ ap (λ l. listingStep l a .tells) (handed-stands rules (opened o) (opened-fit o) steps ∙ ap (λ l. listingLeft l steps) (opened-stands o))
+
+  -- the rings given, and then those still to come, are those wanted
+  given-left : given o steps ++ ringsOf left ≡ wanted o
+  given-left =
+      ap (λ t. named t ++ ringsOf left) (demand-3 o steps)
+      ∙ named-left steps (to-come (book-closed o))
+      ∙ rings-listing (o .n) (o .d) (ofKind (o .kind)) (o .limit) (admitted o .long) (admitted o .binary)
+
+  none-left : (ringsOf left ≡ []) ↔ (given o steps ≡ wanted o)
+  none-left = (
+    λ e. sym (append-nil (given o steps)) ∙ ap (λ t. given o steps ++ t) (sym e) ∙ given-left,
+    λ e. append-cancel-left (given o steps) (ringsOf left) [] (given-left ∙ sym e ∙ sym (append-nil (given o steps))),
+  )
+
+  said-none : SaysNone (answers o steps) ↔ (left ≡ over)
+  said-none = (λ s. said→left steps (to-come (book-closed o)) (subst SaysNone (demand-3 o steps) s), λ e. subst SaysNone (sym (demand-3 o steps)) (left→said steps (book-closed o) e))
+
+pub first-is : FirstRing
+first-is o steps = first-ring (o .n) (o .d) (ofKind (o .kind)) (o .limit) (given o steps) (ringsOf (left o steps)) (given-left o steps)
+
+pub next-is : NextRing
+next-is o steps = next-ring (o .n) (o .d) (ofKind (o .kind)) (o .limit) (given o steps) (ringsOf (left o steps)) (given-left o steps)
+
+pub named-falling : NamedFalling
+named-falling o steps = rings-falling (o .n) (o .d) (ofKind (o .kind)) (o .limit) (given o steps) (ringsOf (left o steps)) (given-left o steps)
+
+pub named-all : NamedAll
+unfolding ringsOf
+named-all o steps s = none-left o steps .0 (ap ringsOf (said-none o steps .0 s))
+
+pub ring-next : RingNext
+ring-next o steps a r = (
+  λ e.
+      let h = ring→ (still o steps) a r (sym (ap (λ t. t .said) (next-told o steps a)) ∙ e) in
+      ((h .0 .0, ap (λ t. given o steps ++ t) (sym (h .0 .1)) ∙ given-left o steps), h .1),
+  λ h.
+      let e = append-cancel-left (given o steps) (ringsOf (left o steps)) (r ∷ h .0 .0) (given-left o steps ∙ sym (h .0 .1)) in
+      ap (λ t. t .said) (next-told o steps a) ∙ →ring (still o steps) a r (h .0 .0) e (h .1),
+)
+
+pub none-next : NoneNext
+none-next o steps a = (
+  λ e. let h = none→ (still o steps) a (sym (ap (λ t. t .said) (next-told o steps a)) ∙ e) in (none-left o steps .0 (h .0), λ s. h .1 (said-none o steps .0 s), h .2),
+  λ h. ap (λ t. t .said) (next-told o steps a ∙ ap (λ b. b .tells) (→none (still o steps) a (none-left o steps .1 (h .0)) (λ e. h .1 (said-none o steps .1 e)) (h .2))),
+)
+
+pub ended-next : EndedNext
+ended-next o steps a = (
+  λ e. said-none o steps .1 (ended→ (still o steps) a (sym (ap (λ t. t .said) (next-told o steps a)) ∙ e)),
+  λ s. ap (λ t. t .said) (next-told o steps a) ∙ →ended (left o steps) a (said-none o steps .0 s),
+)
+
+pub spent-next : SpentNext
+spent-next o steps a = (
+  λ e. spent→ (still o steps) a (sym (ap (λ t. t .said) (next-told o steps a)) ∙ e),
+  λ h. ap (λ t. t .said) (next-told o steps a ∙ →spent (left o steps) a h),
+)
+
+pub trials-next : TrialsNext
+trials-next o steps a = (
+  λ h. ap (λ t. t .trials) (next-told o steps a ∙ →spent (left o steps) a h),
+  λ h. ap (λ t. t .trials) (next-told o steps a) ∙ →paid (left o steps) a h,
+)
+
+-- ---- what a ring takes
+
+pub taken-listed : TakenListed
+taken-listed o steps = rw (demand-3 o steps) (rw raise-zero at (listing-totals steps 0 (bookOf o) (book-closed o)))
+
+pub taken-alike : TakenAlike
+taken-alike o steps others = starts-alike (taken-listed o steps) (taken-listed o others)
+
+pub kind-1-trials : Kind1Trials
+kind-1-trials o steps e =
+    starts-few (taken-listed o steps)
+    (subst (λ k. AtMost (2 * o .n - 1) (book (o .n) (o .d) k (o .limit))) (sym e) (kind-1-prices (o .n) (o .d) (o .limit) (subst (λ k. Admitted rules (o .n) (o .d) k (o .limit)) e (admitted o))))
+
+pub trials : Trials
+trials o steps = starts-few (taken-listed o steps) (prices (o .n) (o .d) (o .kind) (o .limit) (admitted o))
+
+pub never-spent : NeverSpent
+never-spent o steps a h e =
+    let few = owed-few (left-few steps (prices (o .n) (o .d) (o .kind) (o .limit) (admitted o))) in
+    let more = spent-next o steps a .0 e in
+    omega arith

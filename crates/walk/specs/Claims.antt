@@ -1,0 +1,222 @@
+-- What document 01 claims of a walk and its book, each claim as a statement of its own. proofs/Claims.antt has a proof of each.
+use mathlib.Core.Bool.{Bool, false, true, _&&_}
+use mathlib.Core.List.{List, List·Memᴰ, _++_, _∷_}
+use mathlib.Core.Logic.{_↔_, _⊎_}
+use mathlib.Core.Path.{_≡_}
+use Prim.Native.Nat.{ℕ, _*_, _+_, _-_, _<_, _≤_}
+use lib.ListN.{length}
+use Rattle.density.specs.Necklaces.{isNecklaceOf, necklaces, ofKind}
+use Rattle.refusal.specs.Conditions.{FirstOf}
+use Rattle.refusal.specs.Verdicts.{accepted, mostStations}
+use Rattle.walk.specs.Fit.{FitRecord, fit}
+use Rattle.walk.specs.Listing.{Listing, Told, allLines, book, counted, entry, linesBelow, listingAnswers, listingStep, none, over, price, refused, ring}
+use Rattle.walk.specs.Moves.{moveAt, rules, trial}
+use Rattle.walk.specs.Opening.{NoCondition, openAnswer, openConditions, openVerdict}
+use Rattle.walk.specs.Step.{handed, stepDue, stepOf, toldBy, trialsNeeded, walkAnswers}
+use Rattle.walk.specs.ToCome.{stands}
+use Rattle.walk.specs.Totals.{AtMost, SaysNone, Starts, listingLeft, named, owed, totals}
+use Rattle.walk.specs.declared.Standing.the-variants.{Ended}
+use Rattle.walk.specs.declared.Walk.{Walk}
+use Rattle.words.specs.Falling.{Falling, Highest}
+use Rattle.words.specs.Order.{le, lt}
+use Rattle.words.specs.Tests.{keep}
+
+-- ---- opening
+
+-- "Orders. Open: 1, 2, 5, 4, 3. .. Each number is returned only under its condition."
+abbrev pub OpenRefusals : Type 0
+OpenRefusals = (n d kind : ℕ) (limit : List ℕ) → FirstOf (openConditions n d kind limit) (openVerdict n d kind limit)
+
+-- "Every opening that meets no condition for the input is accepted", and no other.
+abbrev pub OpenAccepts : Type 0
+OpenAccepts = (n d kind : ℕ) (limit : List ℕ) → (openVerdict n d kind limit ≡ accepted) ↔ NoCondition n d kind limit
+
+-- ---- a step of any record
+
+-- "a row (64 bytes)"
+abbrev pub Record : Walk → Type 0
+Record w = length (w .row) ≡ mostStations
+
+-- "Unfit (22)"
+abbrev pub FitMeans : Type 0
+FitMeans = (w : Walk) → Record w → (fit rules w ≡ true) ↔ FitRecord w
+
+-- "After 20 or 22 the walk comes back as handed in", and no trial was made. "21, after exactly that many trials".
+abbrev pub RefusedSteps : Type 0
+RefusedSteps =
+    (w : Walk) (a : ℕ) → Record w → let s = stepDue rules w a in 0 < s .number
+    → (((s .number ≡ 22) ⊎ (s .number ≡ 20)) × (stepOf rules w a .walk ≡ w) × (s .trials ≡ 0)) ⊎ ((s .number ≡ 21) × (s .trials ≡ a))
+
+-- "22. unfit walk record"
+abbrev pub UnfitExactly : Type 0
+UnfitExactly = (w : Walk) (a : ℕ) → Record w → (stepDue rules w a .number ≡ 22) ↔ (fit rules w ≡ false)
+
+-- "20. the walk has ended"
+abbrev pub EndedExactly : Type 0
+EndedExactly = (w : Walk) (a : ℕ) → Record w → (stepDue rules w a .number ≡ 20) ↔ ((fit rules w ≡ true) × (w .at ≡ Ended))
+
+-- "21. allowance spent: an answer needs more trials than allowed"
+abbrev pub SpentExactly : Type 0
+SpentExactly =
+    (w : Walk) (a : ℕ) → Record w
+    → (stepDue rules w a .number ≡ 21) ↔ ((fit rules w ≡ true) × (w .at ≡ Ended → ⊥) × (a < trialsNeeded rules w))
+
+-- "Free moves are made before a 21, so the walk then stands where that trial is due."
+abbrev pub TrialDue : Type 0
+TrialDue =
+    (w : Walk) (a : ℕ) → Record w → stepDue rules w a .number ≡ 21
+    → let v = stepOf rules w a .walk in (u : Walk) × (moveAt rules (v .at) v ≡ trial u)
+
+-- No refusal: "one prefix question is one trial, and each step returns the number it made".
+abbrev pub AnsweredExactly : Type 0
+AnsweredExactly =
+    (w : Walk) (a : ℕ) → Record w → let s = stepDue rules w a in
+    ((s .number ≡ 0) ↔ ((fit rules w ≡ true) × (w .at ≡ Ended → ⊥) × (trialsNeeded rules w ≤ a))) × (s .number ≡ 0 → s .trials ≡ trialsNeeded rules w)
+
+-- A step of a fit record is the book's step on what the record stands for, and the record that it hands back is fit.
+abbrev pub StepAsBook : Type 0
+StepAsBook =
+    (w : Walk) (a : ℕ) → Record w → fit rules w ≡ true → let b = listingStep (stands rules w) a in
+    (toldBy (stepDue rules w a) ≡ b .tells) × (stands rules (stepOf rules w a .walk) ≡ b .left) × (fit rules (stepOf rules w a .walk) ≡ true)
+
+-- What its moves still need is what the book then owes.
+abbrev pub NeededOwed : Type 0
+NeededOwed = (w : Walk) → Record w → fit rules w ≡ true → trialsNeeded rules w ≡ owed (stands rules w)
+
+-- ---- the book
+
+-- "If the limit is a kind 1 row of the drawer, it is the first line, at price 0."
+abbrev pub LimitLine : Type 0
+LimitLine =
+    (n d : ℕ) (limit : List ℕ)
+    → (isNecklaceOf d limit ≡ true → allLines n d limit ≡ entry (ring limit) 0 (linesBelow true n d limit))
+    × (isNecklaceOf d limit ≡ false → allLines n d limit ≡ linesBelow false n d limit)
+
+-- "Each further line is the drawer's highest kind 1 row below x, where x is the line before it, or the limit while there is none."
+abbrev pub NextLine : Type 0
+NextLine =
+    (isLine : Bool) (n d : ℕ) (x r : List ℕ)
+    → (linesBelow isLine n d x ≡ entry (ring r) (price isLine x r) (linesBelow true n d r)) ↔ Highest (λ v. lt v x) (necklaces n d) r
+
+-- "When no such row is left, none follows, at the price of all holes of x."
+abbrev pub LastLine : Type 0
+LastLine =
+    (isLine : Bool) (n d : ℕ) (x : List ℕ)
+    → (linesBelow isLine n d x ≡ entry none (counted isLine x) over) ↔ ((v : List ℕ) → List·Memᴰ v (necklaces n d) → lt v x ≡ false)
+
+-- "If it first differs from x at place p, its price is the holes of x at places p to n, plus n - p."
+abbrev pub Price : Type 0
+Price = (isLine : Bool) (u x r : List ℕ) (a b : ℕ) → (a ≡ b → ⊥) → price isLine (u ++ (a ∷ x)) (u ++ (b ∷ r)) ≡ counted isLine (a ∷ x) + length r
+
+-- ---- after an opening
+
+-- an opening that is accepted
+pub record Opening : Type 0 where
+  pub n : ℕ
+  pub d : ℕ
+  pub kind : ℕ
+  pub limit : List ℕ
+  pub passed : openVerdict n d kind limit ≡ accepted
+
+-- "the walk that the opening returned"
+abbrev pub opened : Opening → Walk
+opened o = openAnswer (openVerdict (o .n) (o .d) (o .kind) (o .limit)) rules (o .n) (o .d) (o .kind) (o .limit) .walk
+
+-- the drawer's book for it
+abbrev pub bookOf : Opening → Listing
+bookOf o = book (o .n) (o .d) (o .kind) (o .limit)
+
+-- the answers to a list of steps, "the first [on] the walk that the opening returned, each later one [on] the walk that the last returned"
+abbrev pub answers : Opening → List ℕ → List Told
+answers o steps = walkAnswers rules (opened o) steps
+
+-- "Over the whole list the answers (row, none, 20 or 21), each with the trials returned, equal the book's for the same allowances, in order."
+abbrev pub Demand3 : Type 0
+Demand3 = (o : Opening) (steps : List ℕ) → answers o steps ≡ listingAnswers (bookOf o) steps
+
+-- every record handed back is fit
+abbrev pub NeverUnfit : Type 0
+NeverUnfit = (o : Opening) (steps : List ℕ) → fit rules (handed rules (opened o) steps) ≡ true
+
+-- the rings given, in order
+abbrev pub given : Opening → List ℕ → List (List ℕ)
+given o steps = named (answers o steps)
+
+-- the first ring is the highest of the drawer and kind at or below the limit
+abbrev pub FirstRing : Type 0
+FirstRing =
+    (o : Opening) (steps : List ℕ) (r : List ℕ) (more : List (List ℕ)) → given o steps ≡ r ∷ more
+    → Highest (λ v. le v (o .limit) && ofKind (o .kind) v) (necklaces (o .n) (o .d)) r
+
+-- each later ring is the highest of the drawer and kind below the last
+abbrev pub NextRing : Type 0
+NextRing =
+    (o : Opening) (steps : List ℕ) (before : List (List ℕ)) (r s : List ℕ) (more : List (List ℕ)) → given o steps ≡ before ++ (r ∷ s ∷ more)
+    → Highest (λ v. lt v r && ofKind (o .kind) v) (necklaces (o .n) (o .d)) s
+
+-- all that may be given: the rings of the drawer and kind at or below the limit, falling
+abbrev pub wanted : Opening → List (List ℕ)
+wanted o = keep (λ v. le v (o .limit) && ofKind (o .kind) v) (necklaces (o .n) (o .d))
+
+-- no ring is given twice, and they fall
+abbrev pub NamedFalling : Type 0
+NamedFalling = (o : Opening) (steps : List ℕ) → Falling (given o steps)
+
+-- a list of steps that reaches none has named each ring
+abbrev pub NamedAll : Type 0
+NamedAll = (o : Opening) (steps : List ℕ) → SaysNone (answers o steps) → given o steps ≡ wanted o
+
+-- what a step with this allowance says after these, with its trials; and the trials that the book then owes
+abbrev pub next : Opening → List ℕ → ℕ → Told
+next o steps a = toldBy (stepDue rules (handed rules (opened o) steps) a)
+
+abbrev pub owes : Opening → List ℕ → ℕ
+owes o steps = owed (listingLeft (bookOf o) steps)
+
+-- a ring exactly when it is the next of those wanted, and no more trials are owed than allowed
+abbrev pub RingNext : Type 0
+RingNext =
+    (o : Opening) (steps : List ℕ) (a : ℕ) (r : List ℕ)
+    → (next o steps a .said ≡ ring r) ↔ (((more : List (List ℕ)) × (given o steps ++ (r ∷ more) ≡ wanted o)) × (owes o steps ≤ a))
+
+-- none exactly when no ring is left, it was not said before, and no more trials are owed than allowed
+abbrev pub NoneNext : Type 0
+NoneNext =
+    (o : Opening) (steps : List ℕ) (a : ℕ)
+    → (next o steps a .said ≡ none) ↔ ((given o steps ≡ wanted o) × (SaysNone (answers o steps) → ⊥) × (owes o steps ≤ a))
+
+-- "None: answered one time": 20 exactly after it
+abbrev pub EndedNext : Type 0
+EndedNext = (o : Opening) (steps : List ℕ) (a : ℕ) → (next o steps a .said ≡ refused 20) ↔ SaysNone (answers o steps)
+
+-- 21 exactly when fewer trials are allowed than are owed
+abbrev pub SpentNext : Type 0
+SpentNext = (o : Opening) (steps : List ℕ) (a : ℕ) → (next o steps a .said ≡ refused 21) ↔ (a < owes o steps)
+
+-- "More than a owed: .. a trials .. Otherwise .. the trials owed"; nothing is owed after none
+abbrev pub TrialsNext : Type 0
+TrialsNext = (o : Opening) (steps : List ℕ) (a : ℕ) → (a < owes o steps → next o steps a .trials ≡ a) × (owes o steps ≤ a → next o steps a .trials ≡ owes o steps)
+
+-- "A ring, or none, takes the sum of the trials returned since the ring before it, or since the opening, up to and with the step that gives it"
+abbrev pub taken : Opening → List ℕ → Listing
+taken o steps = totals 0 (answers o steps)
+
+-- that is its price in the book
+abbrev pub TakenListed : Type 0
+TakenListed = (o : Opening) (steps : List ℕ) → Starts (taken o steps) (bookOf o)
+
+-- of walks alike in n, d, kind and limit: the same rings as far as both go, each ring, and none, for the same trials
+abbrev pub TakenAlike : Type 0
+TakenAlike = (o : Opening) (steps others : List ℕ) → Starts (taken o steps) (taken o others) ⊎ Starts (taken o others) (taken o steps)
+
+-- at most 2 n - 1 trials in kind 1
+abbrev pub Kind1Trials : Type 0
+Kind1Trials = (o : Opening) (steps : List ℕ) → o .kind ≡ 1 → AtMost (2 * o .n - 1) (taken o steps)
+
+-- at most 4 n - 2 in each kind
+abbrev pub Trials : Type 0
+Trials = (o : Opening) (steps : List ℕ) → AtMost (4 * o .n - 2) (taken o steps)
+
+-- a step allowed so many is not refused as spent
+abbrev pub NeverSpent : Type 0
+NeverSpent = (o : Opening) (steps : List ℕ) (a : ℕ) → 4 * o .n - 2 ≤ a → next o steps a .said ≡ refused 21 → ⊥

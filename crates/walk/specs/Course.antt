@@ -1,0 +1,107 @@
+-- What the parts of a step rely on, and what they promise: that the step goes on from where they have come. Not of document 01.
+use mathlib.Core.Bool.{true}
+use mathlib.Core.List.{List}
+use mathlib.Core.Logic.{_⊎_}
+use mathlib.Core.Path.{_≡_}
+use Prim.Native.Nat.{ℕ, suc, zero, _*_, _+_, _-_, _<_, _≤_}
+use lib.ListN.{drop, length, take}
+use Rattle.density.proofs.Binary.{Binary}
+use Rattle.density.specs.Necklaces.{begins, isNecklaceOf}
+use Rattle.prefix.specs.Search.{Symbols}
+use Rattle.refusal.specs.Verdicts.{mostStations}
+use Rattle.walk.specs.Fit.{allUpTo}
+use Rattle.walk.specs.Moves.{Rules, moved, rules}
+use Rattle.walk.specs.Step.{enough, run, stepped}
+use Rattle.walk.specs.ToCome.{rowsAt}
+use Rattle.walk.specs.declared.Reached.{Reached}
+use Rattle.walk.specs.declared.Said.{Said}
+use Rattle.walk.specs.declared.Said.the-variants.{Nothing, Says}
+use Rattle.walk.specs.declared.Standing.{Standing}
+use Rattle.walk.specs.declared.Standing.the-variants.{Limit, Down, Up, Given, Ended}
+use Rattle.walk.specs.declared.Stepped.{Stepped}
+use Rattle.walk.specs.declared.Walk.{Walk}
+
+-- ---- records on the way
+
+pub record Sound (R : Rules) (n d kind : ℕ) (row : List ℕ) : Type 0 where
+  pub some : 1 ≤ n
+  pub most : n ≤ R .most
+  pub dense : d ≤ n
+  pub kinds : R .known kind ≡ true
+  pub long : length row ≡ R .most
+  pub binary : Binary (take n row)
+  pub clean : allUpTo 0 (drop n row) ≡ true
+
+-- Down 0 and Up (n + 1) too, and Given with a ring of another kind
+abbrev pub GoodAt : Standing → ℕ → ℕ → List ℕ → Type 0
+GoodAt Limit n d row = Unit {0}
+GoodAt (Down p) n d row = p ≤ n
+GoodAt (Up zero) n d row = ⊥
+GoodAt (Up (suc i)) n d row = (1 ≤ i) × (i ≤ n) × (begins n d (take i row) ≡ true)
+GoodAt Given n d row = isNecklaceOf d (take n row) ≡ true
+GoodAt Ended n d row = ⊥
+
+pub record Good (R : Rules) (w : Walk) : Type 0 where
+  pub sound : Sound R (w .n) (w .d) (w .kind) (w .row)
+  pub placed : GoodAt (w .at) (w .n) (w .d) (w .row)
+
+-- sizes in range, and symbols of zeros and ones
+pub record Fitting (w : Walk) : Type 0 where
+  pub some : 1 ≤ w .n
+  pub most : w .n ≤ mostStations
+  pub dense : w .d ≤ w .n
+  pub symbols : Symbols (w .row)
+
+-- how many symbols lie before the place where a walk stands
+abbrev pub before : Standing → ℕ → ℕ
+before Limit n = n
+before (Down p) n = p - 1
+before (Up p) n = p - 1
+before Given n = n
+before Ended n = 0
+
+-- a walk that a step takes up, from its record or after a ring of another kind
+pub record Ready (w : Walk) : Type 0 where
+  pub sound : Sound rules (w .n) (w .d) (w .kind) (w .row)
+  pub placed : (w .at ≡ Ended) ⊎ GoodAt (w .at) (w .n) (w .d) (w .row)
+  pub within : before (w .at) (w .n) ≤ w .n
+
+-- ---- how many moves a walk may still make, at most
+
+-- moves left in the round, at most
+abbrev pub movesAt : ℕ → Standing → ℕ
+movesAt n Limit = 4 * n + 7
+movesAt n (Down p) = p + n + 2
+movesAt n (Up zero) = 0
+movesAt n (Up (suc i)) = suc n - i
+movesAt n Given = 2 * n + 3
+movesAt n Ended = 0
+
+unfoldable pub sizeAt : Standing → ℕ → ℕ → List ℕ → ℕ
+sizeAt s n d row = length (rowsAt s n d row) * (2 * n + 4) + movesAt n s
+
+unfoldable pub size : Walk → ℕ
+size w = sizeAt (w .at) (w .n) (w .d) (w .row)
+
+-- ---- the rest of a step
+
+-- from w, of a step that was allowed a trials and has k of them left
+abbrev pub rest : ℕ → ℕ → Walk → Stepped
+rest a k w = run rules (enough (w .n)) k (a - k) w
+
+-- where a part of it has brought w
+abbrev pub landed : Walk → Reached → Walk
+landed w r = moved w (r .row) (r .at)
+
+-- the step goes on from there, or has its answer
+abbrev pub resumed : Said → ℕ → ℕ → Walk → Stepped
+resumed Nothing a k w = rest a k w
+resumed (Says x) a k w = stepped w x (a - k)
+
+-- r is on the way of w's step, with that many trials left; where nothing is said, at a ring of another kind, with fewer moves to come
+pub record Resumes (w : Walk) (left : ℕ) (r : Reached) : Type 0 where
+  pub same : (a : ℕ) → left ≤ a → rest a left w ≡ resumed (r .said) a (r .left) (landed w r)
+  pub fewer : r .left ≤ left
+  pub good : r .said ≡ Nothing → Good rules (landed w r)
+  pub given : r .said ≡ Nothing → r .at ≡ Given
+  pub smaller : r .said ≡ Nothing → size (landed w r) < size w

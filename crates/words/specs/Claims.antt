@@ -1,0 +1,54 @@
+-- What document 01 claims of rows, over any alphabet.
+use mathlib.Core.Bool.{true}
+use mathlib.Core.List.{List}
+use mathlib.Core.Logic.{_↔_, _⊎_}
+use mathlib.Core.Path.{_≡_}
+use Prim.Native.Nat.{ℕ, suc, _≤_, _<_}
+use lib.ListN.{length, getD}
+use Rattle.words.specs.Order.{le, lt}
+use Rattle.words.specs.Rotation.{isLyndon, isNecklace, leastIndex, leastRotation, period, rotation}
+use Rattle.words.specs.Symbols.{firstWrong}
+
+-- ---- turns
+
+-- "Shelved: at or below all its turns"
+abbrev pub Shelved : Type 0
+Shelved = (w : List ℕ) → (isNecklace w ≡ true) ↔ ((j : ℕ) → j < length w → le w (rotation j w) ≡ true)
+
+-- "Without symmetry: strictly below its turns 1 to n-1"
+abbrev pub WithoutSymmetry : Type 0
+WithoutSymmetry = (w : List ℕ) → 0 < length w → (isLyndon w ≡ true) ↔ ((j : ℕ) → 1 ≤ j → j < length w → lt w (rotation j w) ≡ true)
+
+-- "Period: the smallest p from 1 to n whose turn gives the row back"
+abbrev pub SmallestPeriod : Type 0
+SmallestPeriod =
+    (w : List ℕ) → 0 < length w
+    → (1 ≤ period w) × (period w ≤ length w) × (rotation (period w) w ≡ w) × ((p : ℕ) → 1 ≤ p → p < period w → rotation p w ≡ w → ⊥)
+
+-- "Key of a row: writes the least turn"
+abbrev pub LeastTurn : Type 0
+LeastTurn = (w : List ℕ) (j : ℕ) → j < length w → le (leastRotation w) (rotation j w) ≡ true
+
+-- "returns the smallest j that gives it"
+abbrev pub SmallestTurn : Type 0
+SmallestTurn =
+    (w : List ℕ) → 0 < length w
+    → (leastIndex w < length w) × (rotation (leastIndex w) w ≡ leastRotation w) × ((j : ℕ) → j < leastIndex w → rotation j w ≡ leastRotation w → ⊥)
+
+-- ---- symbols
+
+-- each symbol is one of an alphabet of k
+abbrev pub Within : ℕ → List ℕ → Type 0
+Within k w = (i : ℕ) → i < length w → getD w i 0 < k
+
+-- p is the place of the first symbol that is none of an alphabet of k; before it stand so many
+pub record FirstOther (k : ℕ) (w : List ℕ) (p : ℕ) : Type 0 where
+  pub before : ℕ
+  pub place : p ≡ suc before
+  pub inside : before < length w
+  pub other : k ≤ getD w before 0
+  pub first : (i : ℕ) → i < before → getD w i 0 < k
+
+-- "A byte other than 0 or 1; place of the first", which is 0 where there is none.
+abbrev pub PlaceOfFirst : Type 0
+PlaceOfFirst = (k : ℕ) (w : List ℕ) → (Within k w × (firstWrong k w ≡ 0)) ⊎ FirstOther k w (firstWrong k w)
