@@ -1,15 +1,15 @@
 -- Rows of zeros and ones.
-use mathlib.Core.Bool.{Bool, cond, false, true}
+use mathlib.Core.Bool.{true}
 use mathlib.Core.List.{List, [], _++_, _∷_}
 use mathlib.Core.Path.{refl, _≡_}
 use Prim.Native.Nat.{suc, zero, ℕ, _≤_}
 use native.Mathlib.Omega.{arith}
-use lib.Dec.{ltb}
-use lib.ListN.{getD, length, replicate}
-use borrow.Author.Tests.{ltb-true}
+use lib.ListN.{getD, length, replicate, set}
 use Rattle.density.specs.Density.{density}
-use Rattle.words.specs.Claims.{Within}
-use Rattle.words.specs.Symbols.{firstWrong, later, sum}
+use Rattle.words.proofs.Alphabet.{within-set, within-tail}
+use Rattle.words.proofs.HighestSymbol.{up-to→, →up-to}
+use Rattle.words.proofs.Wrong.{right-within, within-right}
+use Rattle.words.specs.Symbols.{Within, allUpTo, firstWrong, sum}
 
 pub data Binary : List ℕ → Type 0 where
   empty : Binary []
@@ -49,44 +49,35 @@ binary-at (zero∷ x) (suc i) = binary-at x i
 binary-at (one∷ x) zero = omega arith
 binary-at (one∷ x) (suc i) = binary-at x i
 
--- a row whose symbols are all at most 1
-pub at-binary : (a : List ℕ) → ((i : ℕ) → getD a i 0 ≤ 1) → Binary a
-at-binary [] h = empty
-at-binary (x ∷ a) h = binary-cons x (h 0) (at-binary a (λ i. h (suc i)))
-
 -- of an alphabet of two
 pub binary-within : {w : List ℕ} → Binary w → Within 2 w
 binary-within {w} b i h = omega (arith, binary-at b i)
 
 pub within-binary : (w : List ℕ) → Within 2 w → Binary w
 within-binary [] h = empty
-within-binary (x ∷ w) h = binary-cons x (omega (arith, h 0 (omega arith))) (within-binary w (λ i l. h (suc i) (omega arith)))
+within-binary (x ∷ w) h = binary-cons x (omega (arith, h 0 (omega arith))) (within-binary w (within-tail x w h))
 
 pub binary-replicate : (n x : ℕ) → x ≤ 1 → Binary (replicate n x)
 binary-replicate zero x h = empty
 binary-replicate (suc n) x h = binary-cons x h (binary-replicate n x h)
 
--- ---- no wrong symbol
+pub binary-set : {x : List ℕ} → Binary x → (q b : ℕ) → Binary (b ∷ []) → Binary (set x q b)
+binary-set {x} w q b c = within-binary (set x q b) (within-set x q b (binary-within w) (omega (arith, binary-uncons c .0)))
+
+-- ---- the tests: no symbol above 1, no wrong symbol
+
+pub binary-test : {x : List ℕ} → Binary x → allUpTo 1 x ≡ true
+binary-test {x} b = →up-to 1 x (binary-at b)
+
+pub test-binary : (b : ℕ) (x : List ℕ) → b ≤ 1 → allUpTo b x ≡ true → Binary x
+test-binary b x h e = within-binary x (λ i l. omega (arith, up-to→ b x e i))
 
 -- a row without one is binary, and a binary row has none
 pub no-wrong : (w : List ℕ) → firstWrong 2 w ≡ 0 → Binary w
-unfolding firstWrong
-no-wrong [] e = empty
-no-wrong (x ∷ w) e = go (ltb x 2) refl (no-wrong w) e
-  where
-    none-later : (p : ℕ) → later p ≡ 0 → p ≡ 0
-    none-later zero e = refl
-    none-later (suc p) e = absurd (omega arith)
-
-    go : (b : Bool) → ltb x 2 ≡ b → (firstWrong 2 w ≡ 0 → Binary w) → cond b (later (firstWrong 2 w)) 1 ≡ 0 → Binary (x ∷ w)
-    go true t ih e = binary-cons x (omega (arith, ltb-true x 2 t)) (ih (none-later (firstWrong 2 w) e))
-    go false t ih e = absurd (omega arith)
+no-wrong w e = within-binary w (right-within 2 w e)
 
 pub binary-no-wrong : {w : List ℕ} → Binary w → firstWrong 2 w ≡ 0
-unfolding firstWrong
-binary-no-wrong empty = refl
-binary-no-wrong (zero∷ b) = rw (binary-no-wrong b)
-binary-no-wrong (one∷ b) = rw (binary-no-wrong b)
+binary-no-wrong {w} b = within-right 2 w (binary-within b)
 
 -- ---- the density is the sum
 

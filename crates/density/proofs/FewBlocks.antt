@@ -8,6 +8,7 @@ use lib.ListN.{getD, replicate, take}
 use Rattle.density.proofs.BalancedRow.{balanced-append}
 use Rattle.density.proofs.RowSymbols.{balanced-run, symbol, symbol-in, symbol-one, symbol-step, symbol-zero}
 use Rattle.density.specs.Balanced.{balanced, balancedFrom}
+use Rattle.density.specs.Blocks.{blocks}
 use Rattle.density.specs.Top.{fewRow}
 
 -- block k starts behind p symbols
@@ -87,18 +88,18 @@ module _ (n d : ℕ) (z : 0 < d) (h : 2 * d ≤ n) where
   unfolding balancedFrom symbol
   few-block-row p k g m r w b e f = rw (← e, balanced-append n d pos g (suc m) p, balanced-run n d 0 g p (b .zeros), b .one, f)
 
-  blocks : (m k p r : ℕ) → k + m ≡ d → p + r ≡ n → FewAt n d p k → fewRow (n / d) (balancedFrom d (d - n % d) k m) ≡ balancedFrom n d p r
-  unfolding fewRow balancedFrom symbol
-  blocks zero k p r e f a =
+  blocks-balanced : (m k p r : ℕ) → k + m ≡ d → p + r ≡ n → FewAt n d p k → fewRow (n / d) (balancedFrom d (d - n % d) k m) ≡ balancedFrom n d p r
+  unfolding blocks balancedFrom symbol
+  blocks-balanced zero k p r e f a =
       let k≡d : k ≡ d = omega arith in
       let p≡n = few-ends p (rw k≡d at a) in
       let r≡0 : r ≡ 0 = omega arith in
       rw r≡0
-  blocks (suc m) k p r e f a =
+  blocks-balanced (suc m) k p r e f a =
       let t = few-block p k (symbol d (d - n % d) k) (omega arith) a refl .1 in
       let g : ℕ = n / d - symbol d (d - n % d) k in
       let r′ : ℕ = n - suc (p + g) in
-      few-block-row p k g r′ r _ t (omega (arith, t .room)) (blocks m (suc k) (suc (p + g)) r′ (omega arith) (omega (arith, t .room)) (t .next))
+      few-block-row p k g r′ r _ t (omega (arith, t .room)) (blocks-balanced m (suc k) (suc (p + g)) r′ (omega arith) (omega (arith, t .room)) (t .next))
 
   pub few-balanced : fewRow (n / d) (balanced d (d - n % d)) ≡ balanced n d
-  few-balanced = blocks d 0 0 n (omega arith) (omega arith) (few-start n d)
+  few-balanced = blocks-balanced d 0 0 n (omega arith) (omega arith) (few-start n d)

@@ -1,6 +1,7 @@
 -- Tests of a row, for the functions that make them: its kind, and whether it is a necklace of a density.
 use mathlib.Core.List.{List}
-use mathlib.Core.Bool.{false, true}
+use mathlib.Core.Bool.{false, false≢true, true}
+use mathlib.Core.Logic.{inl, inr, _⊎_}
 use mathlib.Core.Path.{refl, sym, _∙_, _≡_}
 use Prim.Native.Nat.{suc, zero, ℕ}
 use native.Mathlib.Omega.{arith}
@@ -24,6 +25,19 @@ kind-else zero h = refl
 kind-else (suc zero) h = absurd (h refl)
 kind-else (suc (suc zero)) h = refl
 kind-else (suc (suc (suc k))) h = ne-eqb (suc (suc (suc k))) 2 (λ e. omega arith)
+
+-- of two kinds
+pub one-of : (kind : ℕ) → isKind kind ≡ true → (kind ≡ 1) ⊎ (kind ≡ 2)
+unfolding isKind
+one-of zero e = absurd (false≢true e)
+one-of (suc zero) e = inl refl
+one-of (suc (suc zero)) e = inr refl
+one-of (suc (suc (suc k))) e = absurd (false≢true e)
+
+pub is-one : (kind : ℕ) → (kind ≡ 1) ⊎ (kind ≡ 2) → isKind kind ≡ true
+unfolding isKind
+is-one kind (inl e) = rw e
+is-one kind (inr e) = rw e
 
 pub of-kind-one : (k : ℕ) (w : List ℕ) → k ≡ 1 → ofKind k w ≡ true
 unfolding ofKind

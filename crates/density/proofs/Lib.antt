@@ -3,20 +3,35 @@ pub mod Counts
 pub mod Binary
 pub mod Enumeration
 pub mod Members
+pub mod DrawerSize
 -- the largest necklace of (n, d): prefix sums, the balanced row, the lowest rotation of a row
 pub mod Sums
 pub mod BalancedRow
 pub mod LowRotation
 pub mod Largest
 pub mod Scaled
+-- a row compared with the balanced row, place by place
+pub mod BalancedSteps
+pub mod FirstOne
+-- what begins a necklace of (n, d), and what rules a beginning out
+pub mod Begun
+pub mod Sparse
+-- neighbours among the necklaces of (n, d)
+pub mod Neighbours
+-- the necklaces of (n, d) below a row: what one question tells of them, how they end, those that are wanted
+pub mod RowsBelow
+pub mod Branching
+pub mod LastSymbol
+pub mod Wanted
 -- the balanced row by blocks: the rule for few holes and the rule for many
 pub mod RowSymbols
 pub mod FewBlocks
 pub mod ManyBlocks
 -- what the code holds while it writes a row
 pub mod FilledRow
--- the verdict on the question of the top ring
+-- the verdicts on the top ring, and on a drawer and a limit
 pub mod TopVerdicts
+pub mod DrawerVerdicts
 -- tests of the kind and of membership
 pub mod KindTests
 -- what is claimed in specs/

@@ -1,6 +1,4 @@
 -- Every row has a rotation at or below the balanced row of its length and sum (T2, the cycle lemma).
-
--- of 0 .. n one i at which g is most above h
 use mathlib.Core.List.{List}
 use mathlib.Core.Logic.{inl, inr, _⊎_}
 use mathlib.Core.Path.{ap, subst, sym, _∙_, _≡_}
@@ -20,6 +18,7 @@ use Rattle.words.proofs.Rotations.{rotation-length, rotation-whole, rotation-ze
 use Rattle.words.specs.Rotation.{rotation}
 use Rattle.words.specs.Symbols.{sum}
 
+-- of 0 .. n one i at which g is most above h
 record Most (g h : ℕ → ℕ) (n : ℕ) : Type 0 where
   i : ℕ
   inside : i ≤ n

@@ -1,6 +1,4 @@
 -- The necklaces of (n, d): membership both ways, strict fall, the largest, and what begins one.
-
--- a necklace of n symbols and density d
 use mathlib.Core.Bool.{and-eq-true-iff, false, true, true≢false}
 use mathlib.Core.List.{List, List·Memᴰ, [], headD, _++_}
 use mathlib.Core.Path.{subst, sym, _∙_, _≡_}
@@ -11,7 +9,7 @@ use borrow.Author.Tests.{eq-eqb, eqb-true}
 use Rattle.density.proofs.Binary.{Binary, density-sum}
 use Rattle.density.proofs.Enumeration.{in-rows, out-rows, rows-falling}
 use Rattle.density.specs.Density.{allRows, density}
-use Rattle.density.specs.Necklaces.{begins, isNecklaceOf, largestNecklace, necklaces, necklacesOfKind, ofKind}
+use Rattle.density.specs.Necklaces.{begins, isNecklaceOf, largestNecklace, necklaces}
 use Rattle.words.proofs.AtMost.{≼-antisym, _≼_}
 use Rattle.words.proofs.Falling.{head-highest, head-member, keep-falling}
 use Rattle.words.proofs.Lists.{any→, isPrefix→, keep→, →any, →isPrefix, →keep}
@@ -22,6 +20,7 @@ use Rattle.words.specs.Rotation.{isNecklace}
 use Rattle.words.specs.Symbols.{sum}
 use Rattle.words.specs.Tests.{isPrefix}
 
+-- a necklace of n symbols and density d
 pub record Member (n d : ℕ) (w : List ℕ) : Type 0 where
   pub long : length w ≡ n
   pub binary : Binary w
@@ -69,18 +68,6 @@ unfolding necklaces
 necklaces-falling n d = keep-falling (isNecklaceOf d) (rows-falling n)
 
 -- ---- of a kind
-
-pub kind-member→ : (kind n d : ℕ) (w : List ℕ) → List·Memᴰ w (necklacesOfKind kind n d) → Member n d w × (ofKind kind w ≡ true)
-unfolding necklacesOfKind
-kind-member→ kind n d w m = let k = keep→ (ofKind kind) w (necklaces n d) m in (member→ n d w (k .0), k .1)
-
-pub →kind-member : (kind : ℕ) {n d : ℕ} {w : List ℕ} → Member n d w → ofKind kind w ≡ true → List·Memᴰ w (necklacesOfKind kind n d)
-unfolding necklacesOfKind
-→kind-member kind {n} {d} {w} k e = →keep (ofKind kind) w (necklaces n d) (→member k) e
-
-pub kind-falling : (kind n d : ℕ) → Falling (necklacesOfKind kind n d)
-unfolding necklacesOfKind
-kind-falling kind n d = keep-falling (ofKind kind) (necklaces-falling n d)
 
 -- ---- the largest
 

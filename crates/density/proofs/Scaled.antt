@@ -1,6 +1,4 @@
 -- The balanced row of k n symbols and density k d is the k-th power of that of n symbols and density d (T6).
-
--- the floors are the same
 use mathlib.Core.List.{_++_}
 use mathlib.Core.Path.{ap, refl, _∙_, _≡_}
 use Prim.Native.Nat.{suc, zero, ℕ, _*_, _+_, _/_, _<_}
@@ -10,6 +8,7 @@ use Rattle.density.proofs.BalancedRow.{balanced-append, balanced-period
 use Rattle.density.specs.Balanced.{balanced, balancedFrom}
 use Rattle.words.proofs.Power.{power}
 
+-- the floors are the same
 same-floor : (k n d i : ℕ) → 0 < k → i * (k * d) / (k * n) ≡ i * d / n
 same-floor k n d i p = ap (λ x. x / (k * n)) (mul-left-comm i k d) ∙ mul-div-mul-left (i * d) n p
 

@@ -1,6 +1,4 @@
 -- Rows compared by the sums of their beginnings (T1), and floors.
-
--- where every beginning of r sums up to at most that of s, r is at or below s
 use mathlib.Core.List.{List, [], _∷_}
 use mathlib.Core.Path.{refl, _≡_}
 use Prim.Native.Nat.{Ordering, suc, ℕ, _+_, _/_, _<_, _≤_}
@@ -11,6 +9,7 @@ use Rattle.words.proofs.AtMost.{equal, lower, ≼-there, _≼_}
 use Rattle.words.proofs.Below.{Means, compare-means, here, is-eq, is-gt, is-lt}
 use Rattle.words.specs.Symbols.{sum}
 
+-- where every beginning of r sums up to at most that of s, r is at or below s
 pub by-sums : (r s : List ℕ) → length r ≡ length s → ((j : ℕ) → j ≤ length r → sum (take j r) ≤ sum (take j s)) → r ≼ s
 unfolding sum
 by-sums [] [] e h = equal refl

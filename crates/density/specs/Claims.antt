@@ -10,10 +10,9 @@ use Rattle.density.specs.Necklaces.{largestNecklace, necklaces}
 use Rattle.density.specs.Top.{fewRow, manyRow, topVerdict}
 use Rattle.refusal.specs.Conditions.{FirstOf, NoStations, no-more, when}
 use Rattle.refusal.specs.declared.Refusal.the-variants.{Buffer, Holes, Stations}
-use Rattle.words.specs.Claims.{Within}
+use Rattle.words.specs.Symbols.{Within, ones, zeros}
 use Rattle.words.specs.Falling.{Falling, Highest}
 use Rattle.words.specs.Rotation.{isNecklace}
-use Rattle.words.specs.Symbols.{ones, zeros}
 
 -- a shelved row of n symbols with d holes
 pub record InDrawer (n d : ℕ) (w : List ℕ) : Type 0 where

@@ -2,5 +2,7 @@
 pub mod Density
 pub mod Necklaces
 pub mod Balanced
+pub mod Blocks
 pub mod Top
+pub mod Drawers
 pub mod Claims

@@ -3,6 +3,7 @@ use mathlib.Core.Bool.{Bool, true, false, _&&_}
 use mathlib.Core.List.{List, [], headD}
 use Prim.Native.Nat.{ℕ, zero, suc}
 use lib.Dec.{eqb}
+use Rattle.words.specs.Order.{le, lt}
 use Rattle.words.specs.Tests.{keep, any, isPrefix}
 use Rattle.words.specs.Rotation.{isNecklace, isLyndon}
 use Rattle.density.specs.Density.{density, allRows}
@@ -32,6 +33,18 @@ ofKind (suc (suc (suc k))) w = false
 -- the rings of the drawer that are of a kind, falling
 unfoldable pub necklacesOfKind : ℕ → ℕ → ℕ → List (List ℕ)
 necklacesOfKind kind n d = keep (ofKind kind) (necklaces n d)
+
+-- the rings of the drawer below x, falling
+unfoldable pub necklacesBelow : ℕ → ℕ → List ℕ → List (List ℕ)
+necklacesBelow n d x = keep (λ r. lt r x) (necklaces n d)
+
+-- those at or below x
+unfoldable pub necklacesUpTo : ℕ → ℕ → List ℕ → List (List ℕ)
+necklacesUpTo n d x = keep (λ r. le r x) (necklaces n d)
+
+-- of those, the rings that pass a test of their kind: all that may be named from the limit x on
+abbrev pub wanted : ℕ → ℕ → (List ℕ → Bool) → List ℕ → List (List ℕ)
+wanted n d test x = keep (λ r. le r x && test r) (necklaces n d)
 
 -- "Top ring": the highest of the drawer.
 unfoldable pub largestNecklace : ℕ → ℕ → List ℕ

@@ -1,9 +1,10 @@
 // The density of a row.
 ghost use mathlib.Core.Path.{_≡_};
-ghost use Prim.Native.Nat.{ℕ, _≤_};
-ghost use lib.ListN.{length, getD};
-ghost use Rattle.words.specs.Symbols.{sum};
+ghost use Prim.Native.Nat.{_≤_};
+ghost use lib.ListN.{length};
+ghost use Rattle.words.specs.Symbols.{Within, sum};
 ghost use Rattle.density.specs.Density.{density};
+ghost use Rattle.refusal.specs.Verdicts.{mostStations};
 
 // How many symbols of a row are 1.
 pub fn count_ones(row: &[u8]) -> usize
@@ -22,7 +23,7 @@ pub fn count_ones(row: &[u8]) -> usize
 
 // The same for a row of zeros and ones, of at most 64. A sum of bytes: the loop runs on vectors.
 pub fn sum_ones(row: &[u8]) -> usize
-    requires { ⌜ (length (now row) ≤ 64) × ((i : ℕ) → getD (now row) i 0 ≤ 1) ⌝ }
+    requires { ⌜ (length (now row) ≤ mostStations) × Within 2 (now row) ⌝ }
     ensures { λ r. ⌜ (r ≡ sum (now (row .entry))) × (r ≤ length (now (row .entry))) ⌝ }
 {
     let mut ones: u8 = 0;

@@ -1,17 +1,19 @@
 // Binary rows: their density, the necklaces of length n and density d, and the largest of them.
 pub mod count;
+pub mod drawers;
 pub mod kinds;
+pub mod rows;
 
 use refusal::Refusal;
 use refusal::are_stations;
-ghost use mathlib.Core.List.{_++_};
 ghost use mathlib.Core.Path.{_≡_};
 ghost use Prim.Native.Nat.{_-_, _*_, _%_, _<_, _≤_};
-ghost use lib.ListN.{drop, length, take};
+ghost use lib.ListN.{length, take};
 ghost use Rattle.density.specs.Balanced.{balanced};
 ghost use Rattle.density.specs.Necklaces.{largestNecklace};
-ghost use Rattle.refusal.specs.Verdicts.{verdictNumbers};
-ghost use Rattle.density.specs.Top.{topBuffer, topNumbers, topOf, topVerdict};
+ghost use Rattle.refusal.specs.Outcomes.{decide, filled};
+ghost use Rattle.density.specs.Top.{topOutcome, topVerdict};
+ghost use Rattle.refusal.specs.Verdicts.{mostStations};
 
 // The answer to the question of the top ring.
 pub enum Top {
@@ -20,15 +22,15 @@ pub enum Top {
 }
 
 // The row with few holes, from the row b of its d blocks: a block is n / d - b[k] zeros and a 1.
-fn join_few(b: [u8; 64], n: usize, d: usize) -> [u8; 64]
-    requires { ⌜ n ≤ 64 ⌝ }
+fn join_few(b: [u8; refusal::MOST_STATIONS], n: usize, d: usize) -> [u8; refusal::MOST_STATIONS]
+    requires { ⌜ n ≤ mostStations ⌝ }
     requires { ⌜ 0 < d ⌝ }
     requires { ⌜ 2 * d ≤ n ⌝ }
     requires { ⌜ take d b ≡ balanced d (d - n % d) ⌝ }
     ensures { λ r. ⌜ take n r ≡ balanced n d ⌝ }
 {
     let t = n / d;
-    let mut row = [0u8; 64];
+    let mut row = [0u8; refusal::MOST_STATIONS];
     let mut p: usize = 0;
     let mut k: usize = 0;
     while k < d {
@@ -40,8 +42,8 @@ fn join_few(b: [u8; 64], n: usize, d: usize) -> [u8; 64]
 }
 
 // The row with many holes, from the row c of its n - d blocks: a block is a 0 and n / (n - d) - 1 + c[k] ones.
-fn join_many(c: [u8; 64], n: usize, d: usize) -> [u8; 64]
-    requires { ⌜ n ≤ 64 ⌝ }
+fn join_many(c: [u8; refusal::MOST_STATIONS], n: usize, d: usize) -> [u8; refusal::MOST_STATIONS]
+    requires { ⌜ n ≤ mostStations ⌝ }
     requires { ⌜ d < n ⌝ }
     requires { ⌜ n < 2 * d ⌝ }
     requires { ⌜ take (n - d) c ≡ balanced (n - d) (n % (n - d)) ⌝ }
@@ -49,7 +51,7 @@ fn join_many(c: [u8; 64], n: usize, d: usize) -> [u8; 64]
 {
     let z = n - d;
     let s = n / z;
-    let mut row = [1u8; 64];
+    let mut row = [1u8; refusal::MOST_STATIONS];
     let mut p: usize = 0;
     let mut k: usize = 0;
     while k < z {
@@ -61,14 +63,14 @@ fn join_many(c: [u8; 64], n: usize, d: usize) -> [u8; 64]
 }
 
 // The rule for few holes: the gaps come from the top ring of d stations.
-fn few_holes(n: usize, d: usize) -> [u8; 64]
+fn few_holes(n: usize, d: usize) -> [u8; refusal::MOST_STATIONS]
     requires { ⌜ 0 < n ⌝ }
-    requires { ⌜ n ≤ 64 ⌝ }
+    requires { ⌜ n ≤ mostStations ⌝ }
     requires { ⌜ 2 * d ≤ n ⌝ }
     ensures { λ r. ⌜ take n r ≡ balanced n d ⌝ }
 {
     if d == 0 {
-        return [0u8; 64];
+        return [0u8; refusal::MOST_STATIONS];
     }
     let e = d - n % d;
     if 2 * e <= d {
@@ -79,14 +81,14 @@ fn few_holes(n: usize, d: usize) -> [u8; 64]
 }
 
 // The rule for many holes: the runs of ones come from the top ring of n - d stations.
-fn many_holes(n: usize, d: usize) -> [u8; 64]
-    requires { ⌜ n ≤ 64 ⌝ }
+fn many_holes(n: usize, d: usize) -> [u8; refusal::MOST_STATIONS]
+    requires { ⌜ n ≤ mostStations ⌝ }
     requires { ⌜ d ≤ n ⌝ }
     requires { ⌜ n < 2 * d ⌝ }
     ensures { λ r. ⌜ take n r ≡ balanced n d ⌝ }
 {
     if d == n {
-        return [1u8; 64];
+        return [1u8; refusal::MOST_STATIONS];
     }
     let z = n - d;
     let e = n % z;
@@ -97,22 +99,10 @@ fn many_holes(n: usize, d: usize) -> [u8; 64]
     }
 }
 
-// Writes a row to the front of a buffer that has room for it.
-fn write_front(row: &[u8], out: &mut [u8])
-    requires { do ⌜ (← ⟦row.len()⟧) ≤ (← ⟦out.len()⟧) ⌝ }
-    ensures { λ _. ⌜ now (out .exit) ≡ now (row .entry) ++ drop (length (now (row .entry))) (now (out .entry)) ⌝ }
-{
-    let mut i: usize = 0;
-    while i < row.len() {
-        out[i] = row[i];
-        i += 1;
-    }
-}
-
 // The top ring of (n, d), by the rule that fits its holes.
-fn top_row(n: usize, d: usize) -> [u8; 64]
+fn top_row(n: usize, d: usize) -> [u8; refusal::MOST_STATIONS]
     requires { ⌜ 0 < n ⌝ }
-    requires { ⌜ n ≤ 64 ⌝ }
+    requires { ⌜ n ≤ mostStations ⌝ }
     requires { ⌜ d ≤ n ⌝ }
     ensures { λ r. ⌜ take n r ≡ largestNecklace n d ⌝ }
 {
@@ -125,9 +115,8 @@ fn top_row(n: usize, d: usize) -> [u8; 64]
 
 // Writes the top ring of (n, d) to the front of the buffer.
 pub fn largest_necklace(n: usize, d: usize, out: &mut [u8]) -> Top
-    ensures answer { λ r. ⌜ r ≡ topOf (topVerdict n d (length (now (out .entry)))) ⌝ }
-    ensures numbers { λ r. ⌜ topNumbers r ≡ verdictNumbers (topVerdict n d (length (now (out .entry)))) ⌝ }
-    ensures buffer { λ _. ⌜ now (out .exit) ≡ topBuffer (topVerdict n d (length (now (out .entry)))) n d (now (out .entry)) ⌝ }
+    ensures answer { λ r. ⌜ topOutcome r ≡ decide (topVerdict n d (length (now (out .entry)))) tt ⌝ }
+    ensures buffer { λ _. ⌜ now (out .exit) ≡ filled (topVerdict n d (length (now (out .entry)))) (largestNecklace n d) (now (out .entry)) ⌝ }
 {
     if !are_stations(n) {
         return Top::Refused(Refusal::Stations);
@@ -139,6 +128,6 @@ pub fn largest_necklace(n: usize, d: usize, out: &mut [u8]) -> Top
         return Top::Refused(Refusal::Buffer);
     }
     let row = top_row(n, d);
-    write_front(&row[..n], out);
+    words::inner::write_front(&row[..n], out);
     Top::Written
 }

@@ -10,9 +10,10 @@ use Rattle.text.proofs.Digits.{field-length}
 use Rattle.text.proofs.Written.{length-placed, row-length}
 use Rattle.text.specs.Buffers.{placed}
 use Rattle.text.specs.Decimals.{decimal}
-use Rattle.drawer_text.specs.Lines.{countOf, endLine, fronted, refusalText, ringLine, written}
+use Rattle.drawer_text.specs.Lines.{countOf, endLine, refusalText, ringLine, written}
 use Rattle.refusal.specs.Refusals.{numberOf, placeOf}
 use Rattle.refusal.specs.declared.Refusal.{Refusal}
+use Rattle.words.specs.Buffers.{fronted}
 
 -- a piece behind a text that fills the front
 piece-next : (t p d o o′ : List ℕ) (at : ℕ) → at ≡ length t → o ≡ fronted t d → o′ ≡ placed o at p → o′ ≡ fronted (t ++ p) d

@@ -16,6 +16,7 @@ use Rattle.text.specs.declared.Numeral.the-variants.{NoNumber, Number}
 use Rattle.drawer_text.specs.declared.Values.{Values}
 use Rattle.drawer_text.specs.declared.Values.the-variants.{Line, NoLine}
 use Rattle.words.specs.Tests.{isPrefix}
+use Rattle.words.proofs.Booleans.{clash}
 
 module _ (s : List ℕ) (n d kind at size : ℕ) (e : size ≡ length (run Unspaced (drop at s))) where
   pub no-limit : size ≡ 0 → NoLine ≡ limitAt s n d kind at
@@ -63,11 +64,11 @@ limit-inside s n d k at {m} {e} {j} {a} {z} h = go (not (eqb size 0) && isPrefix
         let r : size ≡ z = cc in
         let i = prefix-inside feed s (at + size) (and-eq-true-iff (not (eqb size 0)) (isPrefix (feed ∷ []) (drop (at + size) s)) .0 q .1) in
         omega arith
-    go false q h = let x : _≡_ {A = ℕ} 0 1 = cc in absurd (omega arith)
+    go false q h = clash (cc)
 
 behind-line : {P : Type 0} {m e j a z : ℕ} (x : Numeral) (f : ℕ → ℕ → Values) → ((v p : ℕ) → Line m e j a z ≡ f v p → P) → Line m e j a z ≡ behind x f → P
 behind-line (Number v p) f go h = go v p h
-behind-line NoNumber f go h = let x : _≡_ {A = ℕ} 0 1 = cc in absurd (omega arith)
+behind-line NoNumber f go h = clash (cc)
 
 pub line-inside : (s : List ℕ) (at : ℕ) {m e j a z : ℕ} → Line m e j a z ≡ valuesAt s at → a + z < length s
 unfolding valuesAt

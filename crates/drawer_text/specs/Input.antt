@@ -1,11 +1,12 @@
 -- The drawer program's input: "the names, then one line of values", or the first line that is faulty, missing or too many.
 use mathlib.Core.Bool.{cond, not, _&&_}
-use mathlib.Core.List.{List, [], _∷_, _++_, map}
+use mathlib.Core.List.{List, [], _∷_, map}
 use Prim.Native.Nat.{ℕ, _+_}
 use lib.Dec.{eqb, leb}
 use lib.ListN.{length, drop, take}
 use Rattle.words.specs.Tests.{isPrefix}
-use Rattle.refusal.specs.Refusals.{numberOf, placeOf}
+use Rattle.refusal.specs.Outcomes.{Outcome, decide, filled, given, refused}
+use Rattle.refusal.specs.Verdicts.{Verdict, accepted, need}
 use Rattle.refusal.specs.declared.Refusal.the-variants.{Text, Buffer}
 use Rattle.text.specs.declared.Bytes.the-variants.{Unspaced}
 use Rattle.text.specs.declared.Numeral.{Numeral}
@@ -13,7 +14,7 @@ use Rattle.text.specs.declared.Numeral.the-variants.{Number, NoNumber}
 use Rattle.drawer_text.specs.declared.Values.{Values}
 use Rattle.drawer_text.specs.declared.Values.the-variants.{Line, NoLine}
 use Rattle.drawer_text.specs.declared.Request.{Request}
-use Rattle.drawer_text.specs.declared.Request.the-variants.{Drawer, Refused}
+use Rattle.drawer_text.specs.declared.Request.the-variants.{Drawer}
 use Rattle.text.specs.Parts.{feed, run, spacedAt}
 use Rattle.text.specs.Symbols.{symbolOf}
 
@@ -44,39 +45,47 @@ valuesAt s at = behind (spacedAt s at) (λ n p. behind (spacedAt s p) (λ d q. b
 
 -- ---- the whole input
 
--- what the program is asked: stations, holes, kind and the limit's symbols; or the line that refusal 10 names
-pub data Input : Type 0 where
-  asked : ℕ → ℕ → ℕ → List ℕ → Input
-  faulty : ℕ → Input
+-- what the program is asked
+pub record Asked : Type 0 where
+  pub stations : ℕ
+  pub holes : ℕ
+  pub kind : ℕ
+  pub limit : List ℕ
 
 -- behind the line of values nothing may follow
-abbrev pub inputOf : List ℕ → Values → Input
+abbrev pub inputOf : List ℕ → Values → Outcome Asked
 inputOf s (Line n d kind at size) =
-    cond (eqb (at + size + 1) (length s)) (asked n d kind (map symbolOf (take size (drop at s)))) (faulty 3)
-inputOf s NoLine = faulty 2
+    cond (eqb (at + size + 1) (length s)) (given (record { stations = n; holes = d; kind = kind; limit = map symbolOf (take size (drop at s)) })) (refused (Text 3))
+inputOf s NoLine = refused (Text 2)
 
 -- "Over 256 bytes in all is refusal 10 at line 1. Otherwise 10 names the first line that is faulty, missing or too many."
-unfoldable pub readDrawer : List ℕ → Input
-readDrawer s = cond (leb (length s) mostBytes && isPrefix names s) (inputOf s (valuesAt s (length names))) (faulty 1)
+unfoldable pub readDrawer : List ℕ → Outcome Asked
+readDrawer s = cond (leb (length s) mostBytes && isPrefix names s) (inputOf s (valuesAt s (length names))) (refused (Text 1))
 
--- ---- what is answered, and what is left in a lent buffer: the limit is refused where it does not fit
+-- ---- what is answered, where a buffer is lent for the limit
 
-abbrev pub requestOf : Input → ℕ → Request
-requestOf (asked n d kind limit) room = cond (leb (length limit) room) (Drawer n d kind (length limit)) (Refused Buffer)
-requestOf (faulty line) room = Refused (Text line)
+-- the limit is refused where it does not fit
+abbrev pub roomVerdict : List ℕ → ℕ → Verdict
+roomVerdict limit room = need (leb (length limit) room) Buffer accepted
 
-abbrev pub limitWritten : Input → List ℕ → List ℕ
-limitWritten (asked n d kind limit) out = cond (leb (length limit) (length out)) (limit ++ drop (length limit) out) out
-limitWritten (faulty line) out = out
+-- stations, holes, kind and the limit's length
+pub record RequestValues : Type 0 where
+  pub stations : ℕ
+  pub holes : ℕ
+  pub kind : ℕ
+  pub size : ℕ
 
--- ---- document 01's numbers: the refusal or 0, its place, stations, holes, kind, and the limit's length
+-- what was read, for a buffer of that many bytes
+abbrev pub requestFor : Outcome Asked → ℕ → Outcome RequestValues
+requestFor (given a) room = decide (roomVerdict (a .limit) room) (record { stations = a .stations; holes = a .holes; kind = a .kind; size = length (a .limit) })
+requestFor (refused r) room = refused r
 
--- the numbers of each case of the answer: "any other number returned beside it is 0"
-abbrev pub requestNumbers : Request → ℕ × ℕ × ℕ × ℕ × ℕ × ℕ
-requestNumbers (Drawer n d kind size) = (0, 0, n, d, kind, size)
-requestNumbers (Refused r) = (numberOf r, placeOf r, 0, 0, 0, 0)
+-- document 01's number and values for each answer
+abbrev pub requestOutcome : Request → Outcome RequestValues
+requestOutcome (Drawer n d kind size) = given (record { stations = n; holes = d; kind = kind; size = size })
+requestOutcome (Request.Refused r) = refused r
 
--- the numbers that are due: what is asked, 9 where the limit does not fit, or 10 and the faulty line
-abbrev pub requestDue : Input → ℕ → ℕ × ℕ × ℕ × ℕ × ℕ × ℕ
-requestDue (asked n d kind limit) room = cond (leb (length limit) room) (0, 0, n, d, kind, length limit) (9, 0, 0, 0, 0, 0)
-requestDue (faulty line) room = (10, line, 0, 0, 0, 0)
+-- the buffer at the end: the limit fills its front
+abbrev pub limitFilled : Outcome Asked → List ℕ → List ℕ
+limitFilled (given a) out = filled (roomVerdict (a .limit) (length out)) (a .limit) out
+limitFilled (refused r) out = out

@@ -3,13 +3,14 @@ use mathlib.Core.Bool.{cond}
 use mathlib.Core.List.{List, [], _∷_, _++_}
 use Prim.Native.Nat.{ℕ, _+_}
 use lib.Dec.{leb}
-use lib.ListN.{length, drop}
+use lib.ListN.{length}
 use Rattle.refusal.specs.declared.Refusal.{Refusal}
 use Rattle.refusal.specs.Refusals.{numberOf, placeOf}
 use Rattle.refusal.specs.Verdicts.{mostStations}
 use Rattle.text.specs.Parts.{space, feed}
 use Rattle.text.specs.Decimals.{field}
 use Rattle.text.specs.Symbols.{rowField}
+use Rattle.words.specs.Buffers.{fronted}
 
 -- ---- lines
 
@@ -42,10 +43,6 @@ abbrev pub longestLine : ℕ
 longestLine = mostStations + 64
 
 -- ---- a lent buffer
-
--- a text fills the front of a buffer, and the rest stays
-abbrev pub fronted : List ℕ → List ℕ → List ℕ
-fronted text out = text ++ drop (length text) out
 
 -- a text in a buffer that may be too short: then nothing is written
 abbrev pub written : List ℕ → List ℕ → List ℕ

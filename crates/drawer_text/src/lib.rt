@@ -5,7 +5,7 @@ use refusal::Refusal;
 ghost use mathlib.Core.Path.{_≡_};
 ghost use Prim.Native.Nat.{_≤_};
 ghost use lib.ListN.{length};
-ghost use Rattle.drawer_text.specs.Input.{readDrawer, requestOf, requestNumbers, requestDue, limitWritten};
+ghost use Rattle.drawer_text.specs.Input.{limitFilled, readDrawer, requestFor, requestOutcome};
 ghost use Rattle.drawer_text.specs.Lines.{header, ringLine, endLine, refusalText, longestLine, written, countOf};
 
 // The most bytes that an input may have.
@@ -28,9 +28,8 @@ pub enum Request {
 
 // Reads the drawer program's input. The limit's symbols are written to the front of a lent buffer.
 pub fn read_drawer(text: &[u8], limit: &mut [u8]) -> Request
-    ensures answer { λ r. ⌜ r ≡ requestOf (readDrawer (now (text .entry))) (length (now (limit .entry))) ⌝ }
-    ensures numbers { λ r. ⌜ requestNumbers r ≡ requestDue (readDrawer (now (text .entry))) (length (now (limit .entry))) ⌝ }
-    ensures buffer { λ _. ⌜ now (limit .exit) ≡ limitWritten (readDrawer (now (text .entry))) (now (limit .entry)) ⌝ }
+    ensures answer { λ r. ⌜ requestOutcome r ≡ requestFor (readDrawer (now (text .entry))) (length (now (limit .entry))) ⌝ }
+    ensures buffer { λ _. ⌜ now (limit .exit) ≡ limitFilled (readDrawer (now (text .entry))) (now (limit .entry)) ⌝ }
 {
     if MOST_BYTES < text.len() {
         return Request::Refused(Refusal::Text(1));

@@ -6,7 +6,7 @@ use native.Mathlib.Omega.{arith}
 use lib.ListN.{getD, length, length-append, length-replicate, set, take}
 use lib.Seq.{set-at, take-suc}
 use Rattle.density.proofs.Binary.{Binary, binary-append, binary-replicate, empty, one∷}
-use Rattle.gaps.specs.Gaps.{blocks}
+use Rattle.density.specs.Blocks.{blocks}
 use Rattle.words.proofs.Zeros.{zeros-append, zeros-length}
 use Rattle.words.specs.Symbols.{sum, zeros}
 

@@ -20,8 +20,8 @@ use Rattle.gaps.specs.Gaps.{endsInOne, fills, gapsOfRow, hasGapList, row
 use Rattle.refusal.proofs.Conditions.{Tells, at-most-tells, chain-first, need→, passed, stations-tell, test}
 use Rattle.refusal.specs.Verdicts.{accepted, areStations}
 use Rattle.words.proofs.Claims.{other-tells, place-of-first}
-use Rattle.words.specs.Claims.{FirstOther, Within}
-use Rattle.words.specs.Symbols.{firstWrong}
+use Rattle.words.specs.Claims.{FirstOther}
+use Rattle.words.specs.Symbols.{Within, firstWrong}
 
 -- ---- refusals
 

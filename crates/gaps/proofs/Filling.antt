@@ -1,6 +1,4 @@
 -- Gap lists that make up n stations.
-
--- two tests of numbers that mean the same give the same
 use mathlib.Core.Bool.{Bool, false, true}
 use mathlib.Core.List.{List, [], _∷_}
 use mathlib.Core.Path.{refl, sym, _∙_, _≡_}
@@ -14,6 +12,7 @@ use borrow.Author.Tests.{eq-eqb, eqb-false, eqb-true, ne-eqb}
 use Rattle.gaps.specs.Gaps.{fills}
 use Rattle.words.specs.Symbols.{sum}
 
+-- two tests of numbers that mean the same give the same
 pub eqb-same : (a b c d : ℕ) → (a ≡ b → c ≡ d) → (c ≡ d → a ≡ b) → eqb a b ≡ eqb c d
 eqb-same a b c d f g = go (eqb a b) refl
   where

@@ -10,10 +10,11 @@ use lib.ListN.{length, length-append}
 use borrow.Author.Tests.{eq-eqb, eqb-false, eqb-true}
 use Rattle.density.proofs.Binary.{Binary, binary-replicate, empty, one∷, zero∷}
 use Rattle.density.specs.Density.{density}
+use Rattle.density.specs.Blocks.{blocks}
 use Rattle.gaps.proofs.Blocks.{blocks-binary, blocks-length}
 use Rattle.gaps.proofs.Filling.{fills-none, fills-some, fills→}
 use Rattle.gaps.proofs.Listing.{gaps-count}
-use Rattle.gaps.specs.Gaps.{blocks, endsInOne, fills, gapsFrom, gapsOfRow, hasGapList, rowOfGaps}
+use Rattle.gaps.specs.Gaps.{endsInOne, fills, gapsFrom, gapsOfRow, hasGapList, rowOfGaps}
 use Rattle.words.proofs.Zeros.{zeros-length, zeros-round}
 use Rattle.words.specs.Symbols.{zeros}
 

@@ -1,16 +1,12 @@
 -- "A gap is the number of plain stations before a hole."
 use mathlib.Core.Bool.{Bool, true, false, _||_}
-use mathlib.Core.List.{List, [], _∷_, _++_}
+use mathlib.Core.List.{List, [], _∷_}
 use Prim.Native.Nat.{ℕ, zero, suc, _+_}
 use lib.ListN.{length}
 use lib.Dec.{eqb}
 use Rattle.words.specs.Symbols.{zeros, sum}
+use Rattle.density.specs.Blocks.{blocks}
 use Rattle.density.specs.Density.{density}
-
--- "For each gap c, c zeros and a 1."
-unfoldable pub blocks : List ℕ → List ℕ
-blocks [] = []
-blocks (c ∷ gaps) = zeros c ++ (1 ∷ blocks gaps)
 
 -- "Gap list to row", from n and the list. "For d = 0 the list is empty and the row has n zeros."
 unfoldable pub rowOfGaps : ℕ → List ℕ → List ℕ

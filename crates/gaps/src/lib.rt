@@ -2,24 +2,25 @@
 ghost use mathlib.Core.Path.{_≡_};
 ghost use Prim.Native.Nat.{_≤_, _<_};
 ghost use mathlib.Core.Bool.{true};
-ghost use mathlib.Core.List.{[], _++_};
-ghost use lib.ListN.{length, drop};
+ghost use lib.ListN.{length};
+ghost use Rattle.words.specs.Buffers.{fronted};
+ghost use Rattle.words.specs.Symbols.{zeros};
 ghost use Rattle.density.specs.Density.{density};
 ghost use Rattle.gaps.specs.Gaps.{fills, rowOfGaps, gapsOfRow, hasGapList};
-ghost use Rattle.gaps.specs.Answers.{rowVerdict, rowAnswer, rowNumbers, rowWritten, listVerdict, listAnswer, listNumbers, listDue, listWritten};
-ghost use Rattle.refusal.specs.Verdicts.{verdictNumbers};
+ghost use Rattle.gaps.specs.Answers.{rowVerdict, rowOutcome, listVerdict, listOutcome};
+ghost use Rattle.refusal.specs.Outcomes.{decide, filled};
 use refusal::Refusal;
 
 // Whether the row of a gap list was written.
 pub enum RowAnswer {
     Written,
-    NoRow(Refusal),
+    Refused(Refusal),
 }
 
 // How many gaps were written.
 pub enum ListAnswer {
     Listed(usize),
-    NoList(Refusal),
+    Refused(Refusal),
 }
 
 // Whether the gaps and their holes make up n stations. An empty list makes up any.
@@ -45,7 +46,7 @@ fn gaps_fill(n: usize, gaps: &[usize]) -> bool
 // Zeros to the front of a buffer.
 fn clear(n: usize, out: &mut [u8])
     requires { ⌜ n ≤ length (now out) ⌝ }
-    ensures { λ r. ⌜ now (out .exit) ≡ rowOfGaps n [] ++ drop n (now (out .entry)) ⌝ }
+    ensures { λ r. ⌜ now (out .exit) ≡ fronted (zeros n) (now (out .entry)) ⌝ }
 {
     let mut i: usize = 0;
     while i < n {
@@ -57,7 +58,7 @@ fn clear(n: usize, out: &mut [u8])
 // The row of a gap list to the front of a buffer: zeros, and then a hole behind each gap.
 fn write_row(n: usize, gaps: &[usize], out: &mut [u8])
     requires { ⌜ (n ≤ length (now out)) × (fills n (now gaps) ≡ true) ⌝ }
-    ensures { λ r. ⌜ now (out .exit) ≡ rowOfGaps n (now (gaps .entry)) ++ drop n (now (out .entry)) ⌝ }
+    ensures { λ r. ⌜ now (out .exit) ≡ fronted (rowOfGaps n (now (gaps .entry))) (now (out .entry)) ⌝ }
 {
     clear(n, out);
     let mut place: usize = 0;
@@ -72,21 +73,20 @@ fn write_row(n: usize, gaps: &[usize], out: &mut [u8])
 
 // Gap list to row.
 pub fn row_of_gaps(n: usize, gaps: &[usize], out: &mut [u8]) -> RowAnswer
-    ensures answer { λ r. ⌜ r ≡ rowAnswer (rowVerdict n (now (gaps .entry)) (length (now (out .entry)))) ⌝ }
-    ensures numbers { λ r. ⌜ rowNumbers r ≡ verdictNumbers (rowVerdict n (now (gaps .entry)) (length (now (out .entry)))) ⌝ }
-    ensures buffer { λ _. ⌜ now (out .exit) ≡ rowWritten (rowVerdict n (now (gaps .entry)) (length (now (out .entry)))) n (now (gaps .entry)) (now (out .entry)) ⌝ }
+    ensures answer { λ r. ⌜ rowOutcome r ≡ decide (rowVerdict n (now (gaps .entry)) (length (now (out .entry)))) tt ⌝ }
+    ensures buffer { λ _. ⌜ now (out .exit) ≡ filled (rowVerdict n (now (gaps .entry)) (length (now (out .entry)))) (rowOfGaps n (now (gaps .entry))) (now (out .entry)) ⌝ }
 {
     if !refusal::are_stations(n) {
-        return RowAnswer::NoRow(Refusal::Stations);
+        return RowAnswer::Refused(Refusal::Stations);
     }
     if n < gaps.len() {
-        return RowAnswer::NoRow(Refusal::Holes);
+        return RowAnswer::Refused(Refusal::Holes);
     }
     if !gaps_fill(n, gaps) {
-        return RowAnswer::NoRow(Refusal::GapSum);
+        return RowAnswer::Refused(Refusal::GapSum);
     }
     if out.len() < n {
-        return RowAnswer::NoRow(Refusal::Buffer);
+        return RowAnswer::Refused(Refusal::Buffer);
     }
     write_row(n, gaps, out);
     RowAnswer::Written
@@ -107,7 +107,7 @@ fn has_gap_list(row: &[u8], holes: usize) -> bool
 fn write_gaps(row: &[u8], out: &mut [usize]) -> usize
     requires { ⌜ length (gapsOfRow (now row)) ≤ length (now out) ⌝ }
     ensures count { λ r. ⌜ r ≡ length (gapsOfRow (now (row .entry))) ⌝ }
-    ensures buffer { λ _. ⌜ now (out .exit) ≡ gapsOfRow (now (row .entry)) ++ drop (length (gapsOfRow (now (row .entry)))) (now (out .entry)) ⌝ }
+    ensures buffer { λ _. ⌜ now (out .exit) ≡ fronted (gapsOfRow (now (row .entry))) (now (out .entry)) ⌝ }
 {
     let mut k: usize = 0;
     let mut zeros: usize = 0;
@@ -127,24 +127,23 @@ fn write_gaps(row: &[u8], out: &mut [usize]) -> usize
 
 // Row to gap list.
 pub fn gaps_of_row(row: &[u8], out: &mut [usize]) -> ListAnswer
-    ensures answer { λ r. ⌜ r ≡ listAnswer (listVerdict (now (row .entry)) (length (now (out .entry)))) (now (row .entry)) ⌝ }
-    ensures numbers { λ r. ⌜ listNumbers r ≡ listDue (listVerdict (now (row .entry)) (length (now (out .entry)))) (now (row .entry)) ⌝ }
-    ensures buffer { λ _. ⌜ now (out .exit) ≡ listWritten (listVerdict (now (row .entry)) (length (now (out .entry)))) (now (row .entry)) (now (out .entry)) ⌝ }
+    ensures answer { λ r. ⌜ listOutcome r ≡ decide (listVerdict (now (row .entry)) (length (now (out .entry)))) (length (gapsOfRow (now (row .entry)))) ⌝ }
+    ensures buffer { λ _. ⌜ now (out .exit) ≡ filled (listVerdict (now (row .entry)) (length (now (out .entry)))) (gapsOfRow (now (row .entry))) (now (out .entry)) ⌝ }
 {
     let n = row.len();
     if !refusal::are_stations(n) {
-        return ListAnswer::NoList(Refusal::Stations);
+        return ListAnswer::Refused(Refusal::Stations);
     }
     let wrong = words::first_wrong(row, 2);
     if wrong != 0 {
-        return ListAnswer::NoList(Refusal::Symbol(wrong));
+        return ListAnswer::Refused(Refusal::Symbol(wrong));
     }
     let holes = density::count::count_ones(row);
     if !has_gap_list(row, holes) {
-        return ListAnswer::NoList(Refusal::LastGap);
+        return ListAnswer::Refused(Refusal::LastGap);
     }
     if out.len() < holes {
-        return ListAnswer::NoList(Refusal::Buffer);
+        return ListAnswer::Refused(Refusal::Buffer);
     }
     let listed = write_gaps(row, out);
     ListAnswer::Listed(listed)

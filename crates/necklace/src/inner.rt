@@ -1,9 +1,9 @@
 // Helpers over rows that are already checked, of any alphabet.
 use words::Order;
 ghost use mathlib.Core.Path.{_≡_};
-ghost use mathlib.Core.List.{_++_};
 ghost use Prim.Native.Nat.{_<_, _≤_};
-ghost use lib.ListN.{length, drop, getD};
+ghost use lib.ListN.{length, getD};
+ghost use Rattle.words.specs.Buffers.{fronted};
 ghost use Rattle.words.specs.Rotation.{leastIndex, period, rotation};
 
 // The number of a row's least rotation, and the row's period.
@@ -68,7 +68,7 @@ pub fn least_rotation(row: &[u8]) -> Least
 // Writes the rotation by j to the front of `out`.
 pub fn write_rotation(row: &[u8], j: usize, out: &mut [u8])
     requires { ⌜ (j ≤ length (now row)) × (length (now row) ≤ length (now out)) ⌝ }
-    ensures { λ r. ⌜ now (out .exit) ≡ rotation j (now (row .entry)) ++ drop (length (now (row .entry))) (now (out .entry)) ⌝ }
+    ensures { λ r. ⌜ now (out .exit) ≡ fronted (rotation j (now (row .entry))) (now (out .entry)) ⌝ }
 {
     let n = row.len();
     let mut at: usize = 0;

@@ -2,8 +2,10 @@
 use refusal::Refusal;
 ghost use mathlib.Core.Path.{_≡_};
 ghost use lib.ListN.{length};
-ghost use Rattle.necklace.specs.Key.{keyAnswer, keyDue, keyNumbers, keyVerdict, keyWritten};
-ghost use Rattle.necklace.specs.Class.{classAnswer, classDue, classNumbers, classVerdict};
+ghost use Rattle.words.specs.Rotation.{leastRotation};
+ghost use Rattle.refusal.specs.Outcomes.{decide, filled};
+ghost use Rattle.necklace.specs.Key.{keyGiven, keyOutcome, keyVerdict};
+ghost use Rattle.necklace.specs.Class.{classGiven, classOutcome, classVerdict};
 
 pub mod inner;
 
@@ -21,9 +23,8 @@ pub enum ClassAnswer {
 
 // The key of a row: its least rotation, written to the front of `out`.
 pub fn key(row: &[u8], out: &mut [u8]) -> KeyAnswer
-    ensures answer { λ r. ⌜ r ≡ keyAnswer (keyVerdict (now (row .entry)) (length (now (out .entry)))) (now (row .entry)) ⌝ }
-    ensures numbers { λ r. ⌜ keyNumbers r ≡ keyDue (keyVerdict (now (row .entry)) (length (now (out .entry)))) (now (row .entry)) ⌝ }
-    ensures written { λ r. ⌜ now (out .exit) ≡ keyWritten (keyVerdict (now (row .entry)) (length (now (out .entry)))) (now (row .entry)) (now (out .entry)) ⌝ }
+    ensures answer { λ r. ⌜ keyOutcome r ≡ decide (keyVerdict (now (row .entry)) (length (now (out .entry)))) (keyGiven (now (row .entry))) ⌝ }
+    ensures buffer { λ _. ⌜ now (out .exit) ≡ filled (keyVerdict (now (row .entry)) (length (now (out .entry)))) (leastRotation (now (row .entry))) (now (out .entry)) ⌝ }
 {
     let n = row.len();
     if !refusal::are_stations(n) {
@@ -48,8 +49,7 @@ pub fn key(row: &[u8], out: &mut [u8]) -> KeyAnswer
 
 // The class of a row: whether it is a necklace, and whether it is a Lyndon word.
 pub fn class(row: &[u8]) -> ClassAnswer
-    ensures answer { λ r. ⌜ r ≡ classAnswer (classVerdict (now (row .entry))) (now (row .entry)) ⌝ }
-    ensures numbers { λ r. ⌜ classNumbers r ≡ classDue (classVerdict (now (row .entry))) (now (row .entry)) ⌝ }
+    ensures { λ r. ⌜ classOutcome r ≡ decide (classVerdict (now (row .entry))) (classGiven (now (row .entry))) ⌝ }
 {
     let n = row.len();
     if !refusal::are_stations(n) {

@@ -2,6 +2,7 @@
 use refusal::Refusal;
 ghost use Prim.Native.Nat.{_<_, _≤_};
 ghost use lib.ListN.{length};
+ghost use Rattle.refusal.specs.Verdicts.{mostStations};
 
 // What a buffer holds before it is lent: no symbol.
 pub const FRESH: u8 = 7;
@@ -105,10 +106,10 @@ pub fn count_rows(n: usize) -> usize
 }
 
 // The row of n stations whose symbols are the last binary digits of a number.
-pub fn row_of_number(n: usize, number: usize) -> [u8; 64]
-    requires { ⌜ n ≤ 64 ⌝ }
+pub fn row_of_number(n: usize, number: usize) -> [u8; refusal::MOST_STATIONS]
+    requires { ⌜ n ≤ mostStations ⌝ }
 {
-    let mut row = [0u8; 64];
+    let mut row = [0u8; refusal::MOST_STATIONS];
     let mut rest = number;
     let mut i = n;
     while 0 < i {
@@ -122,19 +123,19 @@ pub fn row_of_number(n: usize, number: usize) -> [u8; 64]
 }
 
 // The symbol at a place of the row that is read on and on.
-pub fn symbol(row: &[u8; 64], n: usize, i: usize) -> u8
+pub fn symbol(row: &[u8; refusal::MOST_STATIONS], n: usize, i: usize) -> u8
     requires { ⌜ 0 < n ⌝ }
-    requires { ⌜ n ≤ 64 ⌝ }
+    requires { ⌜ n ≤ mostStations ⌝ }
 {
     row[i % n]
 }
 
 // Turn j against turn i, place by place: 0 lower, 1 the same, 2 higher.
-pub fn turn_order(row: &[u8; 64], n: usize, j: usize, i: usize) -> u8
+pub fn turn_order(row: &[u8; refusal::MOST_STATIONS], n: usize, j: usize, i: usize) -> u8
     requires { ⌜ 0 < n ⌝ }
-    requires { ⌜ n ≤ 64 ⌝ }
-    requires { ⌜ j ≤ 64 ⌝ }
-    requires { ⌜ i ≤ 64 ⌝ }
+    requires { ⌜ n ≤ mostStations ⌝ }
+    requires { ⌜ j ≤ mostStations ⌝ }
+    requires { ⌜ i ≤ mostStations ⌝ }
 {
     let mut k: usize = 0;
     while k < n {
@@ -152,10 +153,10 @@ pub fn turn_order(row: &[u8; 64], n: usize, j: usize, i: usize) -> u8
 }
 
 // Whether no turn lies below turn j.
-pub fn is_least(row: &[u8; 64], n: usize, j: usize) -> bool
+pub fn is_least(row: &[u8; refusal::MOST_STATIONS], n: usize, j: usize) -> bool
     requires { ⌜ 0 < n ⌝ }
-    requires { ⌜ n ≤ 64 ⌝ }
-    requires { ⌜ j ≤ 64 ⌝ }
+    requires { ⌜ n ≤ mostStations ⌝ }
+    requires { ⌜ j ≤ mostStations ⌝ }
 {
     let mut i: usize = 0;
     while i < n {

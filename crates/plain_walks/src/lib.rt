@@ -37,9 +37,9 @@ pub fn standing_place(at: Standing) -> usize {
 }
 
 // Whether all 64 bytes are the same.
-pub fn same_row(row: &[u8; 64], other: &[u8; 64]) -> bool {
+pub fn same_row(row: &[u8; refusal::MOST_STATIONS], other: &[u8; refusal::MOST_STATIONS]) -> bool {
     let mut i: usize = 0;
-    while i < 64 {
+    while i < refusal::MOST_STATIONS {
         if row[i] != other[i] {
             return false;
         }

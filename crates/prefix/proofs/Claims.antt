@@ -4,11 +4,11 @@ use mathlib.Core.Path.{_≡_}
 use Prim.Native.Nat.{ℕ, _+_, _≤_}
 use native.Mathlib.Omega.{arith}
 use lib.ListN.{length, length-append}
+use Rattle.density.proofs.Begun.{begins-empty}
 use Rattle.density.proofs.Binary.{binary-behind, binary-sum, density-sum}
 use Rattle.density.proofs.Counts.{density-append}
 use Rattle.density.proofs.Members.{Begun, begins→, member→, →begins, →member}
 use Rattle.density.specs.Density.{density}
-use Rattle.prefix.proofs.Begun.{begins-empty}
 use Rattle.prefix.specs.Claims.{Begins, EmptyPrefix, QuestionRefusals, TooFewHoles, TooManyHoles}
 use Rattle.prefix.specs.Question.{questionVerdict}
 use Rattle.refusal.proofs.Conditions.{at-most-tells, chain-first, passed, stations-tell, test}

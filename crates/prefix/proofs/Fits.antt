@@ -1,41 +1,31 @@
 -- P6 and P7 as a test: what may follow a Lyndon word in a necklace.
-
--- so the highest necklace of that length and density is not below it
-use mathlib.Core.Bool.{true, _&&_}
-use mathlib.Core.List.{List, [], _++_, _∷_}
-use mathlib.Core.Path.{ap, refl, subst, sym, _∙_, _≡_}
-use Prim.Native.Nat.{suc, zero, ℕ, _+_, _-_, _<_, _≤_}
+use mathlib.Core.Bool.{false, true, _&&_}
+use mathlib.Core.List.{List, [], _∷_}
+use mathlib.Core.Path.{ap, refl, sym, _∙_, _≡_}
+use Prim.Native.Nat.{suc, zero, ℕ, _*_, _+_, _-_, _<_, _≤_}
+use native.Mathlib.Nat.{sub-zero}
 use native.Mathlib.Omega.{arith}
 use lib.Dec.{leb}
-use lib.ListN.{drop, length, length-append, length-drop, take, take-append-drop}
-use borrow.Author.Tests.{eq-eqb, eqb-true, le-leb, leb-true}
+use lib.ListN.{length, length-append}
+use borrow.Author.Tests.{eq-eqb, eqb-true, le-leb, leb-true, lt-leb, ne-eqb}
 use Rattle.density.proofs.BalancedRow.{balanced-binary, balanced-length, balanced-necklace, balanced-total}
+use Rattle.density.proofs.Begun.{begun-whole}
 use Rattle.density.proofs.Binary.{Binary, binary-append, binary-behind, binary-sum}
 use Rattle.density.proofs.Counts.{sum-append}
-use Rattle.density.proofs.LowRotation.{Lowered, lowered}
+use Rattle.density.proofs.FirstOne.{product-yes}
+use Rattle.density.proofs.Largest.{tail-balanced}
 use Rattle.density.proofs.Members.{Begun, member-of, member-sum}
-use Rattle.density.specs.Balanced.{balanced}
-use Rattle.prefix.proofs.Begun.{begun-whole}
+use Rattle.density.specs.Balanced.{balanced, balancedFrom}
 use Rattle.prefix.specs.Search.{fits}
-use Rattle.words.proofs.AtMost.{≼-trans, _≼_}
+use Rattle.words.proofs.AtMost.{_≼_}
 use Rattle.words.proofs.Booleans.{and→, →and}
-use Rattle.words.proofs.Following.{join-necklace, rotation-above}
+use Rattle.words.proofs.Following.{join-necklace}
 use Rattle.words.proofs.Lyndon.{Lyndon}
 use Rattle.words.proofs.OrderTests.{le→, →le}
-use Rattle.words.proofs.PowerOrder.{Necklace, lyndon→necklace}
+use Rattle.words.proofs.PowerOrder.{lyndon→necklace}
 use Rattle.words.specs.Order.{le}
-use Rattle.words.specs.Rotation.{rotation}
+use Rattle.words.specs.Scan.{Leading}
 use Rattle.words.specs.Symbols.{sum}
-
-pub tail-balanced : {g : List ℕ} → Lyndon g → (r : List ℕ) → 0 < length r → Necklace (g ++ r) → g ≼ balanced (length r) (sum r)
-unfolding rotation
-tail-balanced {g} l r p s = ≼-trans (rotation-above g (take i r) (drop i r) l (simp length-drop (omega (arith, t .inside))) (subst (λ w. Necklace (g ++ w)) (sym (take-append-drop i r)) s)) (t .low)
-  where
-    t : Lowered r
-    t = lowered r p
-
-    i : ℕ
-    i = t .i
 
 -- ---- a Lyndon word g and m more symbols
 
@@ -90,3 +80,29 @@ module _ (n d : ℕ) (g : List ℕ) (l : Lyndon g) where
           let few : sum (b .rest) ≤ length (b .rest) = binary-sum (binary-behind g (b .member .binary)) in
           let low : g ≼ balanced (suc m) (d - sum g) = rw (lr, sr) at (tail-balanced l (b .rest) (omega arith) (b .member .least)) in
           →and (le-leb (sum g) d (omega (arith, count))) (→and (le-leb (d - sum g) (suc m) (omega arith)) (→le g (balanced (suc m) (d - sum g)) low))
+
+-- ---- the counts
+
+pub fits-many : (d m : ℕ) (g : List ℕ) → d < sum g → fits d m g ≡ false
+unfolding fits
+fits-many d zero g h = ne-eqb (sum g) d (λ e. omega arith)
+fits-many d (suc m) g h = rw (lt-leb (sum g) d h)
+
+pub fits-few : (d m : ℕ) (g : List ℕ) → m < d - sum g → fits d m g ≡ false
+unfolding fits
+fits-few d zero g h = ne-eqb (sum g) d (λ e. omega arith)
+fits-few d (suc m) g h = rw (le-leb (sum g) d (omega arith), lt-leb (d - sum g) (suc m) h)
+
+pub fits-none : (d : ℕ) (g : List ℕ) → sum g ≡ d → fits d 0 g ≡ true
+unfolding fits
+fits-none d g e = eq-eqb (sum g) d e
+
+pub fits-some : (d m h : ℕ) (g : List ℕ) → h ≡ sum g → 0 < m → h ≤ d → d - h ≤ m → fits d m g ≡ le g (balancedFrom m (d - h) 0 (m - 0))
+unfolding fits
+fits-some d zero h g e p k l = absurd (omega arith)
+fits-some d (suc m) h g e p k l = rw (e, sub-zero, le-leb (sum g) d (omega arith), le-leb (d - sum g) (suc m) (omega arith))
+
+-- so many zeros for each 1 to come reach as far as the symbols to come
+pub product-fits : (g : List ℕ) (m d h z : ℕ) → Leading g z → z < length g → h ≡ sum g → h ≤ d → d - h ≤ m → m ≤ z * (d - h) → fits d m g ≡ true
+product-fits g zero d h z q i e k l u = fits-none d g (omega arith)
+product-fits g (suc m) d h z q i e k l u = fits-some d (suc m) h g e (omega arith) k l ∙ product-yes g (suc m) (d - h) z q i (omega arith) l u

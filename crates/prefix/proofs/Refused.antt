@@ -5,9 +5,7 @@ use mathlib.Core.Path.{_≡_}
 use Prim.Native.Nat.{ℕ, _<_, _≤_}
 use lib.ListN.{length}
 use borrow.Author.Tests.{eq-eqb, le-leb, lt-leb, ne-eqb}
-use Rattle.density.proofs.Binary.{binary-at, no-wrong}
 use Rattle.prefix.specs.Question.{questionVerdict}
-use Rattle.prefix.specs.Search.{Symbols}
 use Rattle.refusal.specs.Verdicts.{accepted, areStations, refused}
 use Rattle.refusal.specs.declared.Refusal.the-variants.{Holes, Prefix, Stations, Symbol}
 use Rattle.words.specs.Symbols.{firstWrong}
@@ -32,7 +30,3 @@ module _ (n d : ℕ) (p : List ℕ) where
   pub ask-accepted : areStations n ≡ true → d ≤ n → length p ≤ n → firstWrong 2 p ≡ 0 → questionVerdict n d p ≡ accepted
   unfolding questionVerdict
   ask-accepted a h l s = rw (a, le-leb _ _ h, le-leb _ _ l, eq-eqb _ _ s)
-
--- symbols without a wrong one are zeros and ones
-pub right-symbols : (p : List ℕ) → firstWrong 2 p ≡ 0 → Symbols p
-right-symbols p e = binary-at (no-wrong p e)

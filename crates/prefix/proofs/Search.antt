@@ -1,6 +1,4 @@
 -- The search answers the prefix question (P8).
-
--- ---- the search
 use mathlib.Core.Bool.{false≢true, or-true, true, _&&_}
 use mathlib.Core.List.{List, [], _++_, _∷_}
 use mathlib.Core.Logic.{inl, inr, _⊎_}
@@ -10,10 +8,10 @@ use native.Mathlib.Omega.{arith}
 use lib.Dec.{eqb}
 use lib.ListN.{length, length-append}
 use borrow.Author.Tests.{eq-eqb, eqb-true}
+use Rattle.density.proofs.Begun.{begins-empty, begun-less, begun-more, begun-whole, nothing-left}
 use Rattle.density.proofs.Binary.{Binary, binary-at, binary-behind, binary-snoc, binary-uncons}
 use Rattle.density.proofs.Members.{Begun, begins→, member-of, member-sum, →begins}
 use Rattle.density.specs.Necklaces.{begins}
-use Rattle.prefix.proofs.Begun.{begins-empty, begun-less, begun-more, begun-whole, nothing-left}
 use Rattle.prefix.proofs.Fits.{fits→, →fits}
 use Rattle.prefix.specs.Search.{asks, asksScanned, continues, fits}
 use Rattle.words.proofs.Below.{Means, compare-means, is-eq, is-gt, is-lt}
@@ -24,6 +22,8 @@ use Rattle.words.proofs.Repetition.{period-divides, whole-power}
 use Rattle.words.proofs.ScanMeaning.{Scanned, has-period, no-necklace, scan-is}
 use Rattle.words.specs.Scan.{Scan, next, _▹_}
 use Rattle.words.specs.Symbols.{sum}
+
+-- ---- the search
 
 module _ (n d p : ℕ) where
   pub continues→ : (m : ℕ) (a : List ℕ) → length a + m ≡ n → Pre a p → Binary a → continues d p m a ≡ true → Begun n d a

@@ -1,17 +1,13 @@
 -- The search over the places behind a prefix. Not of document 01: what the inner functions compute.
 use mathlib.Core.Bool.{Bool, true, false, _&&_, _||_}
 use mathlib.Core.List.{List, [], _∷_}
-use Prim.Native.Nat.{ℕ, zero, suc, _-_, _%_, _≤_}
-use lib.ListN.{length, getD}
+use Prim.Native.Nat.{ℕ, zero, suc, _-_, _%_}
+use lib.ListN.{length}
 use lib.Dec.{eqb, leb}
 use Rattle.words.specs.Order.{le}
 use Rattle.words.specs.Symbols.{sum}
 use Rattle.words.specs.Scan.{_▹_, next, Scan, barred, periodic, scan}
 use Rattle.density.specs.Balanced.{balanced}
-
--- each symbol is 0 or 1
-abbrev pub Symbols : List ℕ → Type 0
-Symbols a = (i : ℕ) → getD a i 0 ≤ 1
 
 -- the Lyndon word g begins a necklace of density d with m more symbols: the largest necklace of those m symbols is not below g
 unfoldable pub fits : ℕ → ℕ → List ℕ → Bool

@@ -9,8 +9,9 @@ ghost use lib.ListN.{length, getD, take};
 ghost use Rattle.words.specs.Rotation.{isNecklace};
 ghost use Rattle.words.specs.Scan.{Leading, coded, scan};
 ghost use Rattle.density.specs.Necklaces.{begins, isNecklaceOf, ofKind};
-ghost use Rattle.prefix.specs.Search.{Symbols};
+ghost use Rattle.words.specs.Symbols.{Within};
 ghost use Rattle.prefix.specs.Carried.{Knows, KnowsPrefixes};
+ghost use Rattle.refusal.specs.Verdicts.{mostStations};
 
 // What is known of some symbols: their period (0: they begin no necklace), their ones, and with how many zeros they begin.
 pub struct Known {
@@ -20,14 +21,14 @@ pub struct Known {
 }
 
 // What is known of the prefixes of some symbols: entry i is the period of the first i.
-pub type Prefixes = [u8; 64];
+pub type Prefixes = [u8; refusal::MOST_STATIONS];
 
 // The prefixes of some symbols, in one pass.
 pub fn prefixes_of(a: &[u8]) -> Prefixes
-    requires { ⌜ length (now a) ≤ 64 ⌝ }
+    requires { ⌜ length (now a) ≤ mostStations ⌝ }
     ensures { λ r. ⌜ KnowsPrefixes (now (a .entry)) r ⌝ }
 {
-    let mut found = [0u8; 64];
+    let mut found = [0u8; refusal::MOST_STATIONS];
     let mut i: usize = 1;
     let mut j: usize = 0;
     let mut p: u8 = 1;
@@ -71,7 +72,7 @@ fn period_after(p: usize, a: &[u8]) -> usize
 
 // With how many zeros a begins, from that of all but its last symbol.
 fn zeros_after(z: usize, a: &[u8]) -> usize
-    requires { ⌜ (0 < length (now a)) × Leading (take (length (now a) - 1) (now a)) z × Symbols (now a) ⌝ }
+    requires { ⌜ (0 < length (now a)) × Leading (take (length (now a) - 1) (now a)) z × Within 2 (now a) ⌝ }
     ensures { λ r. ⌜ Leading (now (a .entry)) r ⌝ }
 {
     let i = a.len() - 1;
@@ -87,7 +88,7 @@ fn zeros_after(z: usize, a: &[u8]) -> usize
 impl Known {
     // Of a, by its prefixes.
     pub fn read(prefixes: &Prefixes, a: &[u8]) -> Known
-        requires { ⌜ (length (now a) ≤ 64) × Symbols (now a) × KnowsPrefixes (now a) (now prefixes) ⌝ }
+        requires { ⌜ (length (now a) ≤ mostStations) × Within 2 (now a) × KnowsPrefixes (now a) (now prefixes) ⌝ }
         ensures { λ r. ⌜ Knows (now (a .entry)) r ⌝ }
     {
         let ones = density::count::sum_ones(a);
@@ -110,7 +111,7 @@ impl Known {
 
     // Of all but the last symbol of a, by what is known of a and its prefixes. Of no symbols nothing changes.
     pub fn shorter(self, prefixes: &Prefixes, a: &[u8]) -> Known
-        requires { ⌜ (length (now a) ≤ 64) × Symbols (now a) × Knows (now a) self × KnowsPrefixes (now a) (now prefixes) ⌝ }
+        requires { ⌜ (length (now a) ≤ mostStations) × Within 2 (now a) × Knows (now a) self × KnowsPrefixes (now a) (now prefixes) ⌝ }
         ensures { λ r. ⌜ Knows (take (length (now (a .entry)) - 1) (now (a .entry))) r ⌝ }
     {
         if a.len() == 0 {
@@ -136,7 +137,7 @@ impl Known {
 
     // Of a, by what is known of all but its last symbol.
     pub fn longer(self, a: &[u8]) -> Known
-        requires { ⌜ (0 < length (now a)) × (length (now a) ≤ 64) × Symbols (now a) × Knows (take (length (now a) - 1) (now a)) self ⌝ }
+        requires { ⌜ (0 < length (now a)) × (length (now a) ≤ mostStations) × Within 2 (now a) × Knows (take (length (now a) - 1) (now a)) self ⌝ }
         ensures { λ r. ⌜ Knows (now (a .entry)) r ⌝ }
     {
         let period = period_after(self.period, a);
@@ -150,8 +151,8 @@ impl Known {
     }
 
     // The question: whether some necklace of n symbols and density d begins with the first t symbols of a row, which are known.
-    pub fn begins(self, n: usize, d: usize, row: [u8; 64], t: usize) -> bool
-        requires { ⌜ (0 < n) × (n ≤ 64) × (d ≤ n) × (t ≤ n) × Symbols row × Knows (take t row) self ⌝ }
+    pub fn begins(self, n: usize, d: usize, row: [u8; refusal::MOST_STATIONS], t: usize) -> bool
+        requires { ⌜ (0 < n) × (n ≤ mostStations) × (d ≤ n) × (t ≤ n) × Within 2 row × Knows (take t row) self ⌝ }
         ensures { λ r. ⌜ r ≡ begins n d (take t row) ⌝ }
     {
         let p = self.period;
@@ -171,7 +172,7 @@ impl Known {
 
     // The same of a, which ends with a 1, where all before that 1 is known and begins such a necklace: no search is needed.
     pub fn begins_with_one(self, n: usize, d: usize, a: &[u8]) -> bool
-        requires { ⌜ (n ≤ 64) × (d ≤ n) × (1 < length (now a)) × (length (now a) ≤ n) × Symbols (now a) × (getD (now a) (length (now a) - 1) 0 ≡ 1) × Knows (take (length (now a) - 1) (now a)) self × (begins n d (take (length (now a) - 1) (now a)) ≡ true) ⌝ }
+        requires { ⌜ (n ≤ mostStations) × (d ≤ n) × (1 < length (now a)) × (length (now a) ≤ n) × Within 2 (now a) × (getD (now a) (length (now a) - 1) 0 ≡ 1) × Knows (take (length (now a) - 1) (now a)) self × (begins n d (take (length (now a) - 1) (now a)) ≡ true) ⌝ }
         ensures { λ r. ⌜ r ≡ begins n d (now (a .entry)) ⌝ }
     {
         let p = self.period;
@@ -186,7 +187,7 @@ impl Known {
 
     // Whether a, which is known, is a necklace of density d.
     pub fn is_necklace_of(self, d: usize, a: &[u8]) -> bool
-        requires { ⌜ (0 < length (now a)) × Symbols (now a) × Knows (now a) self ⌝ }
+        requires { ⌜ (0 < length (now a)) × Within 2 (now a) × Knows (now a) self ⌝ }
         ensures { λ r. ⌜ r ≡ isNecklaceOf d (now (a .entry)) ⌝ }
     {
         let p = self.period;

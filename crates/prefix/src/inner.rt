@@ -3,15 +3,16 @@ ghost use mathlib.Core.Path.{_≡_};
 ghost use mathlib.Core.Bool.{true, false};
 ghost use Prim.Native.Nat.{_-_, _≤_, _<_};
 ghost use lib.ListN.{length, take};
-ghost use Rattle.words.specs.Symbols.{sum};
+ghost use Rattle.words.specs.Symbols.{sum, Within};
 ghost use Rattle.words.specs.Scan.{Leading};
 ghost use Rattle.density.specs.Necklaces.{begins};
-ghost use Rattle.prefix.specs.Search.{Symbols, fits, continues};
+ghost use Rattle.prefix.specs.Search.{fits, continues};
+ghost use Rattle.refusal.specs.Verdicts.{mostStations};
 
 // Whether the Lyndon word g, of density h, begins a necklace of density d with m more symbols. g begins with z zeros and a 1.
 // The largest necklace of those symbols is compared with g: its first 1 by a product, the symbols behind it from an error term.
 pub fn goes_on(g: &[u8], m: usize, d: usize, h: usize, z: usize) -> bool
-    requires { ⌜ (m ≤ 64) × (h ≡ sum (now g)) × (z < length (now g)) × (length (now g) ≤ 64) × Leading (now g) z × Symbols (now g) ⌝ }
+    requires { ⌜ (m ≤ mostStations) × (h ≡ sum (now g)) × (z < length (now g)) × (length (now g) ≤ mostStations) × Leading (now g) z × Within 2 (now g) ⌝ }
     ensures { λ r. ⌜ r ≡ fits d m (now (g .entry)) ⌝ }
 {
     if d < h {
@@ -54,7 +55,7 @@ pub fn goes_on(g: &[u8], m: usize, d: usize, h: usize, z: usize) -> bool
 // Whether the first t symbols of x, of period p and density h, begin a necklace of n symbols and density d.
 // They begin with z zeros. They go on with the period, place by place, or leave it upwards.
 pub fn search_from(
-    mut x: [u8; 64],
+    mut x: [u8; refusal::MOST_STATIONS],
     t: usize,
     n: usize,
     d: usize,
@@ -62,7 +63,7 @@ pub fn search_from(
     h: usize,
     mut z: usize,
 ) -> bool
-    requires { ⌜ (0 < p) × (p ≤ t) × (t ≤ n) × (n ≤ 64) × (h ≡ sum (take t x)) × (h ≤ t) × Symbols x × Leading (take t x) z ⌝ }
+    requires { ⌜ (0 < p) × (p ≤ t) × (t ≤ n) × (n ≤ mostStations) × (h ≡ sum (take t x)) × (h ≤ t) × Within 2 x × Leading (take t x) z ⌝ }
     ensures { λ r. ⌜ r ≡ continues d p (n - t) (take t x) ⌝ }
 {
     let mut i = t;
@@ -91,7 +92,7 @@ pub fn search_from(
 // Whether the counts rule a prefix out, which has h ones and begins with z zeros: too many or too few ones are to come,
 // or too few for so many places, since no run of zeros is longer than the first.
 pub fn ruled_out(n: usize, d: usize, prefix: &[u8], h: usize, z: usize) -> bool
-    requires { ⌜ (n ≤ 64) × (d ≤ n) × (length (now prefix) ≤ n) × (h ≡ sum (now prefix)) × Leading (now prefix) z × Symbols (now prefix) ⌝ }
+    requires { ⌜ (n ≤ mostStations) × (d ≤ n) × (length (now prefix) ≤ n) × (h ≡ sum (now prefix)) × Leading (now prefix) z × Within 2 (now prefix) ⌝ }
     ensures { λ r. ⌜ (r ≡ true → begins n d (now (prefix .entry)) ≡ false) ⌝ }
 {
     if d < h {

@@ -3,7 +3,9 @@ pub mod carried;
 pub mod inner;
 
 ghost use mathlib.Core.Path.{_≡_};
-ghost use Rattle.prefix.specs.Question.{questionVerdict, questionAnswer, questionNumbers, questionDue};
+ghost use Rattle.refusal.specs.Outcomes.{decide};
+ghost use Rattle.density.specs.Necklaces.{begins};
+ghost use Rattle.prefix.specs.Question.{questionVerdict, questionOutcome};
 use carried::Known;
 use refusal::Refusal;
 
@@ -15,8 +17,7 @@ pub enum PrefixAnswer {
 
 // The prefix question.
 pub fn ask(n: usize, d: usize, prefix: &[u8]) -> PrefixAnswer
-    ensures answer { λ r. ⌜ r ≡ questionAnswer (questionVerdict n d (now (prefix .entry))) n d (now (prefix .entry)) ⌝ }
-    ensures numbers { λ r. ⌜ questionNumbers r ≡ questionDue (questionVerdict n d (now (prefix .entry))) n d (now (prefix .entry)) ⌝ }
+    ensures { λ r. ⌜ questionOutcome r ≡ decide (questionVerdict n d (now (prefix .entry))) (begins n d (now (prefix .entry))) ⌝ }
 {
     if !refusal::are_stations(n) {
         return PrefixAnswer::Refused(Refusal::Stations);
@@ -31,7 +32,7 @@ pub fn ask(n: usize, d: usize, prefix: &[u8]) -> PrefixAnswer
     if wrong != 0 {
         return PrefixAnswer::Refused(Refusal::Symbol(wrong));
     }
-    let row = words::inner::padded(prefix);
+    let row = density::rows::padded(prefix);
     let prefixes = carried::prefixes_of(prefix);
     let yes = Known::read(&prefixes, prefix).begins(n, d, row, prefix.len());
     PrefixAnswer::Answered(yes)

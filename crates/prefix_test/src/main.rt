@@ -2,13 +2,14 @@
 use prefix::PrefixAnswer;
 ghost use Prim.Native.Nat.{_<_, _≤_};
 ghost use lib.ListN.{length};
+ghost use Rattle.refusal.specs.Verdicts.{mostStations};
 
 // A row is listed under its number: a binary 1 and then its symbols. Half of the number is that of the row without its last symbol.
 // Behind each number there is a mark for each density.
 const DENSITIES: usize = 11;
 
 // How many holes the row has.
-fn count_holes(row: &[u8; 64], n: usize) -> usize
+fn count_holes(row: &[u8; refusal::MOST_STATIONS], n: usize) -> usize
     requires { ⌜ n ≤ 10 ⌝ }
     ensures { λ r. ⌜ r ≤ 10 ⌝ }
 {
@@ -67,7 +68,7 @@ struct Counts {
 // The prefix of t symbols with that number, at all densities.
 fn ask_prefix(marks: &[u8; 22528], n: usize, t: usize, number: usize) -> Counts
     requires { ⌜ n ≤ 10 ⌝ }
-    requires { ⌜ t ≤ 64 ⌝ }
+    requires { ⌜ t ≤ mostStations ⌝ }
     requires { ⌜ number < 2048 ⌝ }
     ensures { λ r. ⌜ (r .asked ≤ 11) × (r .agreed ≤ 11) × (r .begun ≤ 11) ⌝ }
 {
@@ -91,7 +92,7 @@ fn ask_prefix(marks: &[u8; 22528], n: usize, t: usize, number: usize) -> Counts
 // All prefixes of t symbols.
 fn ask_length(marks: &[u8; 22528], n: usize, t: usize) -> Counts
     requires { ⌜ n ≤ 10 ⌝ }
-    requires { ⌜ t ≤ 64 ⌝ }
+    requires { ⌜ t ≤ mostStations ⌝ }
     ensures { λ r. ⌜ (r .asked ≤ 22528) × (r .agreed ≤ 22528) × (r .begun ≤ 22528) ⌝ }
 {
     let end = 2 * plain_rows::count_rows(t);

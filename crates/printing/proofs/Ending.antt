@@ -8,19 +8,18 @@ use lib.Dec.{leb, ltb}
 use lib.ListN.{length, length-append}
 use Rattle.drawer_text.proofs.Filling.{end-length, refusal-length, ring-length}
 use Rattle.drawer_text.specs.Lines.{ringLine}
-use Rattle.printing.specs.Left.{highest64, left, leftAt, linesLeft, listingOf, ringsLeft, saidLeft, stopped}
+use Rattle.listing.specs.Listing.{Line, Listing, entry, none, over, ring}
+use Rattle.printing.specs.Left.{highest64, left, leftAt, lineLeft, linesLeft, listingOf, ringsLeft, stopped}
 use Rattle.printing.specs.NextLine.{answerNext, isDone, nextAt, nextOf, ringNext}
 use Rattle.printing.specs.declared.Due.{Due}
 use Rattle.printing.specs.declared.Due.the-variants.{Done, Header, Refused, Rings}
 use Rattle.printing.specs.declared.Printing.{Printing}
 use Rattle.refusal.specs.declared.Refusal.the-variants.{Unfit}
 use Rattle.walk.specs.Fit.{fit}
-use Rattle.walk.specs.Listing.{Listing, Said, entry, none, over, refused, ring}
 use Rattle.walk.specs.Moves.{rowOf, rules}
 use Rattle.walk.specs.Step.{stepOf}
 use Rattle.walk.specs.declared.Answer.{Answer}
-use Rattle.walk.specs.declared.Answer.the-variants.{None, Ring}
-use Rattle.walk.specs.declared.Answer.the-variants.{Refused as StepRefused}
+use Rattle.walk.specs.declared.Answer.the-variants.{None, Refused as StepRefused, Ring}
 use Rattle.walk.specs.declared.Walk.{Walk}
 use Rattle.words.specs.Rotation.{period}
 
@@ -71,13 +70,12 @@ lines-some k (entry s p rest) = go (leb p highest64)
     numbered true r = omega (arith, length-append (ringLine (k + 1) r (period r) p) (linesLeft (k + 1) rest), ring-some (k + 1) r (period r) p)
     numbered false r = stopped-some
 
-    said : (s : Said) → 0 < length (saidLeft k s p (linesLeft (k + 1) rest))
-    said (ring r) = numbered (ltb k highest64) r
-    said none = omega (arith, end-length p)
-    said (refused c) = stopped-some
+    line : (s : Line) → 0 < length (lineLeft k s p (linesLeft (k + 1) rest))
+    line (ring r) = numbered (ltb k highest64) r
+    line none = omega (arith, end-length p)
 
-    go : (b : Bool) → 0 < length (cond b (saidLeft k s p (linesLeft (k + 1) rest)) stopped)
-    go true = said s
+    go : (b : Bool) → 0 < length (cond b (lineLeft k s p (linesLeft (k + 1) rest)) stopped)
+    go true = line s
     go false = stopped-some
 
 rings-some : (k : ℕ) (w : Walk) → 0 < length (ringsLeft k w)

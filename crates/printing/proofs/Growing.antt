@@ -1,22 +1,19 @@
 -- A line put behind what is used of a buffer, and what filling has done so far.
-use mathlib.Core.List.{List, [], append-assoc, append-nil, _++_}
+use mathlib.Core.List.{List, append-assoc, _++_}
 use mathlib.Core.Path.{ap, sym, _∙_, _≡_}
 use Prim.Native.Nat.{ℕ, _+_, _-_, _<_, _≤_}
 use native.Mathlib.Omega.{arith}
-use lib.ListN.{drop, drop-of-length-le, length, length-append, length-drop, take}
-use lib.Seq.{drop-at, drop-drop, length-take-le, take-all, take-at}
-use Rattle.drawer_text.specs.Lines.{fronted, longestLine}
+use lib.ListN.{drop, length, length-append, take}
+use lib.Seq.{drop-at, drop-drop, length-take-le, take-at}
+use Rattle.drawer_text.specs.Lines.{longestLine}
 use Rattle.printing.proofs.NextLine.{next-left, next-long}
 use Rattle.printing.specs.Left.{left}
 use Rattle.printing.specs.NextLine.{nextOf}
 use Rattle.printing.specs.declared.Printing.{Printing}
 use Rattle.refusal.specs.Verdicts.{mostStations}
-use Rattle.text.proofs.Written.{length-placed}
+use Rattle.text.proofs.Written.{length-placed, part-placed}
 use Rattle.text.specs.Buffers.{placed}
-
--- the rest of a buffer
-pub behind : (u : ℕ) (o : List ℕ) → take (length o - u) (drop u o) ≡ drop u o
-behind u o = take-all (length o - u) (drop u o) (omega (arith, length-drop u o))
+use Rattle.words.specs.Buffers.{fronted}
 
 -- a line at the front of the part of a buffer behind u bytes
 module _ (u : ℕ) (o line part : List ℕ) (h : u + length line ≤ length o) (e : part ≡ fronted line (take (length o - u) (drop u o))) where
@@ -24,11 +21,8 @@ module _ (u : ℕ) (o line part : List ℕ) (h : u + length line ≤ length o) (
   abbrev whole : List ℕ
   whole = take u o ++ (part ++ drop (length o - u) (drop u o))
 
-  nothing : drop (length o - u) (drop u o) ≡ []
-  nothing = drop-of-length-le (drop u o) {i = length o - u} (omega (arith, length-drop u o))
-
   added : whole ≡ placed o u line
-  added = rw (e, behind u o, nothing, drop-drop, append-nil) (sym (append-assoc (take u o) line (drop (u + length line) o)))
+  added = part-placed u o line part e
 
   front : length (take u o ++ line) ≡ u + length line
   front = length-append (take u o) line ∙ ap (λ k. k + length line) (length-take-le u o (omega arith))

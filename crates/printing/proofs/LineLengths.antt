@@ -7,7 +7,7 @@ use native.Mathlib.Omega.{arith}
 use lib.ListN.{length}
 use borrow.Author.Tests.{le-leb}
 use Rattle.drawer_text.proofs.Filling.{end-length, ring-length}
-use Rattle.drawer_text.specs.Lines.{countOf, endLine, fronted, longestLine, ringLine, written}
+use Rattle.drawer_text.specs.Lines.{countOf, endLine, longestLine, ringLine, written}
 use Rattle.words.specs.Rotation.{necklacePeriod}
 use Rattle.printing.specs.Left.{highest64}
 use Rattle.printing.specs.NextLine.{Next, Puts, filledBy}
@@ -15,6 +15,7 @@ use Rattle.printing.specs.declared.Filled.{Filled}
 use Rattle.refusal.specs.Verdicts.{mostStations}
 use Rattle.text.proofs.Digits.{decimal-short}
 use Rattle.words.specs.Rotation.{isNecklace, period}
+use Rattle.words.specs.Buffers.{fronted}
 
 -- a line that fits is written, and what is handed back with it tells its length
 pub puts-line : (x : Next) (out o : List ℕ) (n : ℕ) (f : ℕ → Filled) → f (length (x .line)) ≡ filledBy x → length (x .line) ≤ longestLine → longestLine ≤ length out → (n ≡ countOf (x .line) (length out)) × (o ≡ written (x .line) out) → Puts x out o (f n)

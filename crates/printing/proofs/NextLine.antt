@@ -1,6 +1,6 @@
 -- The next line of a printing and what is left behind it are what was left.
 use mathlib.Core.Bool.{Bool, cond, false, true}
-use mathlib.Core.List.{[], append-nil, _++_}
+use mathlib.Core.List.{List, [], append-nil, _++_}
 use mathlib.Core.Path.{ap, refl, sym, _∙_, _≡_}
 use Prim.Native.Nat.{ℕ, _+_, _<_}
 use native.Mathlib.Omega.{arith}
@@ -9,7 +9,8 @@ use lib.ListN.{length}
 use lib.Seq.{length-take-le}
 use borrow.Author.Tests.{le-ltb, leb-false, leb-true, lt-ltb}
 use Rattle.drawer_text.specs.Lines.{endLine, refusalText, ringLine}
-use Rattle.printing.specs.Left.{highest64, left, leftAt, linesLeft, listingOf, ringsLeft, saidLeft, stopped}
+use Rattle.listing.specs.Listing.{Listing, Said, entry, listingStep, over, refused, says, told}
+use Rattle.printing.specs.Left.{highest64, left, leftAt, lineLeft, linesLeft, listingOf, ringsLeft, stopped}
 use Rattle.printing.specs.NextLine.{answerNext, nextAt, nextOf, ringNext, walkNext}
 use Rattle.printing.specs.declared.Due.{Due}
 use Rattle.printing.specs.declared.Due.the-variants.{Done, Header, Refused, Rings}
@@ -20,15 +21,18 @@ use Rattle.walk.proofs.Good.{Fit, fit-sound}
 use Rattle.walk.proofs.Runs.{said-row, saidAs, told-as}
 use Rattle.walk.proofs.Steps.{Agrees, step-agrees}
 use Rattle.walk.specs.Fit.{fit}
-use Rattle.walk.specs.Listing.{Listing, entry, listingStep, over, refused, told}
 use Rattle.walk.specs.Moves.{rowOf, rules}
 use Rattle.walk.specs.Step.{saidBy, stepOf}
 use Rattle.walk.specs.declared.Answer.{Answer}
-use Rattle.walk.specs.declared.Answer.the-variants.{None, Ring}
-use Rattle.walk.specs.declared.Answer.the-variants.{Refused as StepRefused}
+use Rattle.walk.specs.declared.Answer.the-variants.{None, Refused as StepRefused, Ring}
 use Rattle.walk.specs.declared.Stepped.{Stepped}
 use Rattle.walk.specs.declared.Walk.{Walk}
 use Rattle.words.specs.Rotation.{period}
+
+-- what follows line k where a step says s, with its trials and `on` behind it
+abbrev saidLeft : ℕ → Said → ℕ → List ℕ → List ℕ
+saidLeft k (says l) p on = lineLeft k l p on
+saidLeft k (refused c) p on = stopped
 
 -- an answer's line, and what is left behind it
 answer-left : (k : ℕ) (a : Answer) (v : Walk) (t : ℕ) → Fit rules v → answerNext a k v t .line ++ left (answerNext a k v t .then) ≡ saidLeft k (saidAs a v) t (linesLeft (k + 1) (listingOf v))
@@ -69,11 +73,11 @@ module _ (k : ℕ) (w : Walk) (long : length (w .row) ≡ mostStations) where
       go over e = none-so 20 (ap (λ t. t .said) (rw e at tells))
       go (entry s p rest) e = paid (leb p highest64) refl
         where
-          paid : (b : Bool) → leb p highest64 ≡ b → saidLeft k (saidAs (r .answer) (r .walk)) (r .trials) (linesLeft (k + 1) (listingOf (r .walk))) ≡ cond b (saidLeft k s p (linesLeft (k + 1) rest)) stopped
+          paid : (b : Bool) → leb p highest64 ≡ b → saidLeft k (saidAs (r .answer) (r .walk)) (r .trials) (linesLeft (k + 1) (listingOf (r .walk))) ≡ cond b (lineLeft k s p (linesLeft (k + 1) rest)) stopped
           paid true h =
               let q = le-ltb highest64 p (leb-true p highest64 h) in
               let t = rw (e, q) at tells in
-              let a : saidAs (r .answer) (r .walk) ≡ s = ap (λ t. t .said) t in
+              let a : saidAs (r .answer) (r .walk) ≡ says s = ap (λ t. t .said) t in
               let b : r .trials ≡ p = ap (λ t. t .trials) t in
               let l : listingOf (r .walk) ≡ rest = rw (e, q) at (agrees .left) in
               rw (a, b, l)

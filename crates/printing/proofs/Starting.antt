@@ -1,30 +1,33 @@
 -- What a printing that was started has to print is the program's text.
 use mathlib.Core.Bool.{Bool, cond, false, true}
 use mathlib.Core.List.{List, _++_}
-use mathlib.Core.Path.{ap, refl, _≡_}
+use mathlib.Core.Path.{ap, refl, sym, _∙_, _≡_}
 use Prim.Native.Nat.{suc, zero, ℕ, _*_, _+_, _-_, _≤_}
 use native.Mathlib.Omega.{arith}
 use lib.Dec.{eqb, leb, ltb}
 use lib.ListN.{length}
 use borrow.Author.Tests.{le-leb, lt-ltb, ltb-false}
+use Rattle.density.proofs.Binary.{binary-within}
 use Rattle.density.specs.Necklaces.{isKind, ofKind}
 use Rattle.drawer_text.specs.Lines.{header, refusalText}
+use Rattle.listing.proofs.Strikes.{Closed, last, line, listing-closed}
+use Rattle.listing.proofs.TrialBounds.{prices}
+use Rattle.listing.specs.Listing.{Listing, listing}
+use Rattle.listing.specs.Totals.{AtMost, and-then, ringsOf}
 use Rattle.printing.proofs.Numbers.{numbered}
 use Rattle.printing.specs.Left.{highest64, left, linesLeft, ringsLeft}
 use Rattle.printing.specs.NextLine.{printing}
 use Rattle.printing.specs.Text.{askedText, linesText, openedText}
 use Rattle.printing.specs.declared.Due.the-variants.{Header}
+use Rattle.refusal.proofs.Outcomes.{given-so, refused-so}
+use Rattle.refusal.specs.Outcomes.{decide}
 use Rattle.refusal.specs.Verdicts.{Verdict, accepted, areStations, need, refused}
 use Rattle.refusal.specs.declared.Refusal.{Refusal}
-use Rattle.refusal.specs.declared.Refusal.the-variants.{Holes, Kind, Stations, Symbol, Limit as LimitLength}
+use Rattle.refusal.specs.declared.Refusal.the-variants.{Holes, Kind, Limit as LimitLength, Stations, Symbol}
 use Rattle.walk.proofs.Demand.{Admitted, accepted-opening, fresh-fit, fresh-stands}
-use Rattle.walk.proofs.Plenty.{opened-underway}
-use Rattle.walk.proofs.Strikes.{Closed, last, line, listing-closed}
-use Rattle.walk.specs.Listing.{Listing, listing}
 use Rattle.walk.specs.Moves.{rules}
-use Rattle.walk.specs.Opening.{fresh, openAnswer, openVerdict}
-use Rattle.walk.specs.Totals.{AtMost, and-then, ringsOf}
-use Rattle.walk.specs.declared.OpenAnswer.the-variants.{NotOpen, Open}
+use Rattle.walk.specs.Opening.{fresh, openOutcome, openVerdict, openWalk}
+use Rattle.walk.specs.declared.OpenAnswer.{OpenAnswer}
 use Rattle.walk.specs.declared.Opened.{Opened}
 use Rattle.words.specs.Symbols.{firstWrong}
 
@@ -41,10 +44,9 @@ opened-lines : (n d kind : ℕ) (limit : List ℕ) → Admitted rules n d kind l
 unfolding ringsLeft
 opened-lines n d kind limit o =
     let e = fresh-stands rules n d kind limit o in
-    let u = opened-underway n d kind limit o in
     let c = listing-closed n d (ofKind kind) limit in
     rw (fresh-fit rules n d kind limit o .test, e)
-    (lines-same (4 * n - 2) 0 c (rw e at (u .few)) (omega (arith, o .most)) (omega (arith, numbered n d kind limit o)))
+    (lines-same (4 * n - 2) 0 c (prices n d kind limit (o .kinds) (o .stations) (o .long) (binary-within (o .binary))) (omega (arith, o .most)) (omega (arith, numbered n d kind limit o)))
 
 -- ---- a kind that no byte holds is refused as any other that is none
 
@@ -74,29 +76,14 @@ module _ (n d kind : ℕ) (limit : List ℕ) where
 
 -- ---- what opening hands out
 
-module _ (n d kind : ℕ) (limit : List ℕ) (o : Opened) (e : o ≡ openAnswer (openVerdict n d kind limit) rules n d kind limit) where
-  pub opened-left : o .answer ≡ Open → left (printing (o .walk) 0 Header) ≡ askedText n d kind limit
+module _ (n d kind : ℕ) (limit : List ℕ) (o : Opened) (e : openOutcome (o .answer) ≡ decide (openVerdict n d kind limit) tt) (w : o .walk ≡ openWalk (openVerdict n d kind limit) rules n d kind limit) where
+  pub opened-left : o .answer ≡ OpenAnswer.Open → left (printing (o .walk) 0 Header) ≡ askedText n d kind limit
   unfolding left
-  opened-left a = go (openVerdict n d kind limit) refl
-    where
-      go : (v : Verdict) → openVerdict n d kind limit ≡ v → header ++ ringsLeft 0 (o .walk) ≡ openedText (openVerdict n d kind limit) n d kind limit
-      go accepted f =
-          let w : o .walk ≡ fresh rules n d kind limit = rw (e, f) in
-          rw (f, w) (ap {B = List ℕ} (λ t. header ++ t) (opened-lines n d kind limit (accepted-opening n d kind limit f)))
-      go (refused r) f =
-          let b : NotOpen r ≡ Open = rw (e, f) at a in
-          let z : _≡_ {A = ℕ} 0 1 = cc in
-          absurd (omega arith)
+  opened-left a =
+      let f : openVerdict n d kind limit ≡ accepted = given-so _ tt tt (sym e ∙ ap openOutcome a) in
+      rw (w, f) (ap {B = List ℕ} (λ t. header ++ t) (opened-lines n d kind limit (accepted-opening n d kind limit f)))
 
-  pub refused-left : (r : Refusal) → o .answer ≡ NotOpen r → refusalText r ≡ askedText n d kind limit
-  refused-left r a = go (openVerdict n d kind limit) refl
-    where
-      go : (v : Verdict) → openVerdict n d kind limit ≡ v → refusalText r ≡ openedText (openVerdict n d kind limit) n d kind limit
-      go accepted f =
-          let b : Open ≡ NotOpen r = rw (e, f) at a in
-          let z : _≡_ {A = ℕ} 0 1 = cc in
-          absurd (omega arith)
-      go (refused q) f =
-          let b : NotOpen q ≡ NotOpen r = rw (e, f) at a in
-          let c : q ≡ r = cc in
-          rw (f, c)
+  pub refused-left : (r : Refusal) → o .answer ≡ OpenAnswer.Refused r → refusalText r ≡ askedText n d kind limit
+  refused-left r a =
+      let f : openVerdict n d kind limit ≡ refused r = refused-so _ tt r (sym e ∙ ap openOutcome a) in
+      rw f

@@ -1,8 +1,6 @@
 -- A ring that a step gives is a necklace, of as many symbols as a row may have.
 use mathlib.Core.Bool.{Bool, false, true}
 use mathlib.Core.Path.{refl, sym, _∙_, _≡_}
-use Prim.Native.Nat.{ℕ}
-use native.Mathlib.Omega.{arith}
 use lib.ListN.{length}
 use Rattle.printing.specs.Left.{highest64}
 use Rattle.printing.specs.NextLine.{GivenRing}
@@ -19,9 +17,10 @@ use Rattle.walk.specs.Step.{stepOf}
 use Rattle.walk.specs.declared.Answer.the-variants.{Refused, Ring}
 use Rattle.walk.specs.declared.Stepped.{Stepped}
 use Rattle.walk.specs.declared.Walk.{Walk}
+use Rattle.words.proofs.Booleans.{clash}
 
 refused≢ring : {r : Refusal} → Refused r ≡ Ring → ⊥
-refused≢ring e = let z : _≡_ {A = ℕ} 0 1 = cc in omega arith
+refused≢ring e = clash (cc)
 
 -- an unfit walk is refused
 unfit-step : (w : Walk) → fit rules w ≡ false → stepOf rules w highest64 .answer ≡ Refused Unfit

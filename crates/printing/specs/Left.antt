@@ -10,7 +10,7 @@ use Rattle.printing.specs.declared.Due.the-variants.{Refused, Header, Ri
 use Rattle.printing.specs.declared.Printing.{Printing}
 use Rattle.walk.specs.ToCome.{stands}
 use Rattle.walk.specs.Fit.{fit}
-use Rattle.walk.specs.Listing.{Listing, Said, entry, none, over, ring, refused}
+use Rattle.listing.specs.Listing.{Line, Listing, entry, none, over, ring}
 use Rattle.walk.specs.Moves.{rules}
 use Rattle.walk.specs.declared.Walk.{Walk}
 use Rattle.words.specs.Rotation.{period}
@@ -23,16 +23,15 @@ highest64 = 18446744073709551615
 abbrev pub stopped : List ℕ
 stopped = refusalText Unfit
 
--- what follows line k: the line that is said next, at its price, and `on` behind it
-abbrev pub saidLeft : ℕ → Said → ℕ → List ℕ → List ℕ
-saidLeft k (ring r) p on = cond (ltb k highest64) (ringLine (k + 1) r (period r) p ++ on) stopped
-saidLeft k none p on = endLine p
-saidLeft k (refused c) p on = stopped
+-- what follows line k: the next line, at its price, and `on` behind it
+abbrev pub lineLeft : ℕ → Line → ℕ → List ℕ → List ℕ
+lineLeft k (ring r) p on = cond (ltb k highest64) (ringLine (k + 1) r (period r) p ++ on) stopped
+lineLeft k none p on = endLine p
 
 -- the lines of a book behind line k
 unfoldable pub linesLeft : ℕ → Listing → List ℕ
 linesLeft k over = stopped
-linesLeft k (entry s p rest) = cond (leb p highest64) (saidLeft k s p (linesLeft (k + 1) rest)) stopped
+linesLeft k (entry s p rest) = cond (leb p highest64) (lineLeft k s p (linesLeft (k + 1) rest)) stopped
 
 -- the lines that a walk has still to give
 abbrev pub listingOf : Walk → Listing

@@ -5,7 +5,7 @@ use mathlib.Core.Path.{_≡_}
 use Prim.Native.Nat.{ℕ, _+_, _≤_}
 use lib.Dec.{ltb}
 use lib.ListN.{length}
-use Rattle.drawer_text.specs.Lines.{endLine, fronted, header, longestLine, refusalText, ringLine}
+use Rattle.drawer_text.specs.Lines.{endLine, header, longestLine, refusalText, ringLine}
 use Rattle.printing.specs.Left.{highest64, stopped}
 use Rattle.printing.specs.declared.Due.{Due}
 use Rattle.printing.specs.declared.Due.the-variants.{Refused, Header, Rings, Done}
@@ -20,6 +20,7 @@ use Rattle.walk.specs.declared.Answer.the-variants.{Refused as StepRefused}
 use Rattle.walk.specs.declared.Stepped.{Stepped}
 use Rattle.walk.specs.declared.Walk.{Walk}
 use Rattle.words.specs.Rotation.{isNecklace, period}
+use Rattle.words.specs.Buffers.{fronted}
 
 abbrev pub printing : Walk → ℕ → Due → Printing
 printing w k due = record { walk = w; number = k; due = due }

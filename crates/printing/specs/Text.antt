@@ -2,12 +2,11 @@
 use mathlib.Core.List.{List, [], _++_}
 use Prim.Native.Nat.{ℕ, _+_}
 use Rattle.density.specs.Necklaces.{ofKind}
-use Rattle.drawer_text.specs.Input.{Input, asked, faulty, readDrawer}
+use Rattle.drawer_text.specs.Input.{Asked, readDrawer}
 use Rattle.drawer_text.specs.Lines.{endLine, header, refusalText, ringLine}
+use Rattle.refusal.specs.Outcomes.{Outcome, given}
 use Rattle.refusal.specs.Verdicts.{Verdict, accepted, refused}
-use Rattle.refusal.specs.declared.Refusal.the-variants.{Text}
-use Rattle.walk.specs.Listing.{Listing, entry, listing, none, over, ring}
-use Rattle.walk.specs.Listing.{refused as saidRefused}
+use Rattle.listing.specs.Listing.{Listing, entry, listing, none, over, ring}
 use Rattle.walk.specs.Opening.{openVerdict}
 use Rattle.words.specs.Rotation.{period}
 
@@ -17,7 +16,6 @@ unfoldable pub linesText : ℕ → Listing → List ℕ
 linesText k over = []
 linesText k (entry (ring r) p rest) = ringLine (k + 1) r (period r) p ++ linesText (k + 1) rest
 linesText k (entry none p rest) = endLine p
-linesText k (entry (saidRefused c) p rest) = []
 
 -- the names and the book of an accepted opening, or its refusal
 abbrev pub openedText : Verdict → ℕ → ℕ → ℕ → List ℕ → List ℕ
@@ -29,9 +27,9 @@ abbrev pub askedText : ℕ → ℕ → ℕ → List ℕ → List ℕ
 askedText n d kind limit = openedText (openVerdict n d kind limit) n d kind limit
 
 -- the text for what was read
-abbrev pub inputText : Input → List ℕ
-inputText (asked n d kind limit) = askedText n d kind limit
-inputText (faulty line) = refusalText (Text line)
+abbrev pub inputText : Outcome Asked → List ℕ
+inputText (given a) = askedText (a .stations) (a .holes) (a .kind) (a .limit)
+inputText (Outcome.refused r) = refusalText r
 
 -- all that the program prints
 unfoldable pub printed : List ℕ → List ℕ

@@ -57,6 +57,6 @@ pub fn start_walk(n: usize, d: usize, kind: usize, size: usize, symbols: &[u8]) 
             number: 0,
             due: Due::Header,
         },
-        OpenAnswer::NotOpen(r) => start_refusal(r),
+        OpenAnswer::Refused(r) => start_refusal(r),
     }
 }

@@ -4,6 +4,7 @@ use printing::Printing;
 ghost use mathlib.Core.Path.{_≡_};
 ghost use Prim.Native.Nat.{_<_, _≤_};
 ghost use lib.ListN.{length};
+ghost use Rattle.refusal.specs.Verdicts.{mostStations};
 
 // An input: stations, holes and kind, a limit of the last `size` binary digits of a number, and a wrong byte at a place of it, or at none.
 pub struct Case {
@@ -44,7 +45,7 @@ fn append_numbers(text: &mut [u8], n: usize, d: usize, kind: usize) -> usize
 
 // The input.
 pub fn append_input(text: &mut [u8], case: Case) -> usize
-    requires { ⌜ (8192 ≡ length (now text)) × (case .size ≤ 64) ⌝ }
+    requires { ⌜ (8192 ≡ length (now text)) × (case .size ≤ mostStations) ⌝ }
     ensures { λ r. ⌜ (r ≤ 8192) × (8192 ≡ length (now (text .exit))) ⌝ }
 {
     let at = append_numbers(text, case.n, case.d, case.kind);
@@ -67,7 +68,7 @@ fn refused(case: Case) -> usize {
     if case.n == 0 {
         return 1;
     }
-    if 64 < case.n {
+    if refusal::MOST_STATIONS < case.n {
         return 1;
     }
     if case.n < case.d {
@@ -118,7 +119,7 @@ fn append_due(text: &mut [u8], case: Case) -> usize
 
 // The text of a case, in buffers of lengths from one to another.
 fn compare(case: Case, first: usize, last: usize) -> Tally
-    requires { ⌜ (case .size ≤ 64) × (last ≤ 4200) ⌝ }
+    requires { ⌜ (case .size ≤ mostStations) × (last ≤ 4200) ⌝ }
 {
     let mut input = [0u8; 8192];
     let m = append_input(&mut input, case);
@@ -148,7 +149,7 @@ fn size_of(n: usize, i: usize) -> usize
 // Stations 0 to 6 and 64 to 66, 0 to 6 holes and 999, kinds 0 to 3 and 255 to 259, some of which a byte would cut to 1 and 2; no wrong symbol,
 // or one at the first place, at the last or amid.
 fn opening(index: usize) -> Case
-    ensures { λ r. ⌜ r .size ≤ 64 ⌝ }
+    ensures { λ r. ⌜ r .size ≤ mostStations ⌝ }
 {
     let n = spread(index % 10, 7, 57);
     let size = size_of(n, index / 720 % 3);

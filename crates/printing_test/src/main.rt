@@ -29,7 +29,7 @@ fn print_pieces(input: &[u8]) {
 
 // The text of a drawer at ones, or of its refusal.
 fn show(n: usize, d: usize, kind: usize) {
-    if 64 < n {
+    if refusal::MOST_STATIONS < n {
         return;
     }
     let mut input = [0u8; 8192];

@@ -2,6 +2,7 @@
 ghost use mathlib.Core.Path.{_≡_};
 ghost use Prim.Native.Nat.{_<_, _≤_, _*_};
 ghost use lib.ListN.{length};
+ghost use Rattle.refusal.specs.Verdicts.{mostStations};
 
 // A piece behind what a text holds, as far as there is room.
 pub fn append(text: &mut [u8], at: usize, piece: &[u8]) -> usize
@@ -42,7 +43,7 @@ pub fn append_row(
     byte: u8,
     behind: u8,
 ) -> usize
-    requires { ⌜ (at ≤ 8192) × (8192 ≡ length (now text)) × (n ≤ 64) ⌝ }
+    requires { ⌜ (at ≤ 8192) × (8192 ≡ length (now text)) × (n ≤ mostStations) ⌝ }
     ensures { λ r. ⌜ (r ≤ 8192) × (8192 ≡ length (now (text .exit))) ⌝ }
 {
     let row = plain_rows::row_of_number(n, number);

@@ -10,7 +10,7 @@ ghost use lib.ListN.{length};
 
 // A text in the midst of its lines, with a walk of (n, 0).
 fn amid(n: usize, at: Standing, number: u64) -> Printing {
-    let row = [0u8; 64];
+    let row = [0u8; refusal::MOST_STATIONS];
     let walk = Walk {
         n,
         d: 0,

@@ -4,6 +4,7 @@ use crate::outcomes::Outcomes;
 use walk::Standing;
 use walk::Walk;
 ghost use Prim.Native.Nat.{_<_, _≤_};
+ghost use Rattle.refusal.specs.Verdicts.{mostStations};
 
 fn kind_of(number: usize) -> u8 {
     match number {
@@ -35,7 +36,7 @@ fn standing_of(number: usize) -> Standing {
 
 // The records of n stations, numbered: kinds 0 to 3, up to n + 1 holes, all rows, all standings with places up to n + 1.
 fn record(n: usize, rows: usize, index: usize) -> Walk
-    requires { ⌜ n ≤ 64 ⌝ }
+    requires { ⌜ n ≤ mostStations ⌝ }
     requires { ⌜ 0 < rows ⌝ }
 {
     let kinds = index / 4;
@@ -52,7 +53,7 @@ fn record(n: usize, rows: usize, index: usize) -> Walk
 }
 
 fn step_all(n: usize, rows: usize, records: usize, allowance: u64) -> Outcomes
-    requires { ⌜ n ≤ 64 ⌝ }
+    requires { ⌜ n ≤ mostStations ⌝ }
     requires { ⌜ 0 < rows ⌝ }
 {
     let mut outcomes = outcomes::nothing();
@@ -69,7 +70,7 @@ fn step_all(n: usize, rows: usize, records: usize, allowance: u64) -> Outcomes
 
 // n stations have 4 (n + 2) (2 n + 7) records for each row.
 fn show_all(n: usize, rows: usize, records: usize)
-    requires { ⌜ n ≤ 64 ⌝ }
+    requires { ⌜ n ≤ mostStations ⌝ }
     requires { ⌜ 0 < rows ⌝ }
 {
     let mut allowance: usize = 0;

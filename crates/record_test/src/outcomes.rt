@@ -15,11 +15,11 @@ pub struct Outcomes {
 }
 
 // The number whose binary digits are the first n symbols, modulo a prime.
-fn number_of(n: usize, row: &[u8; 64]) -> usize {
+fn number_of(n: usize, row: &[u8; refusal::MOST_STATIONS]) -> usize {
     let mut number: usize = 0;
     let mut i: usize = 0;
     while i < n {
-        if 64 <= i {
+        if refusal::MOST_STATIONS <= i {
             return number;
         }
         number = (2 * number + plain_rows::wide(row[i])) % 10007;

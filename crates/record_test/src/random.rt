@@ -4,6 +4,7 @@ use crate::outcomes::Outcomes;
 use walk::Standing;
 use walk::Walk;
 ghost use Prim.Native.Nat.{_<_, _≤_};
+ghost use Rattle.refusal.specs.Verdicts.{mostStations};
 
 // The next number of a generator.
 fn next(x: usize) -> usize
@@ -38,7 +39,7 @@ fn stations(index: usize) -> usize
 // The symbol at a place: now and then a byte that is none, now and then a 1 behind the row.
 fn symbol(index: usize, i: usize, n: usize) -> u8
     requires { ⌜ index < 1000000 ⌝ }
-    requires { ⌜ i < 64 ⌝ }
+    requires { ⌜ i < mostStations ⌝ }
 {
     let x = drawn(index, i, 512);
     if x == 0 {
@@ -57,15 +58,15 @@ fn symbol(index: usize, i: usize, n: usize) -> u8
 }
 
 // A row, now and then of zeros.
-fn row(index: usize, n: usize) -> [u8; 64]
+fn row(index: usize, n: usize) -> [u8; refusal::MOST_STATIONS]
     requires { ⌜ index < 1000000 ⌝ }
 {
-    let mut row = [0u8; 64];
+    let mut row = [0u8; refusal::MOST_STATIONS];
     if drawn(index, 66, 8) == 0 {
         return row;
     }
     let mut i: usize = 0;
-    while i < 64 {
+    while i < refusal::MOST_STATIONS {
         row[i] = symbol(index, i, n);
         i += 1;
     }
@@ -73,7 +74,7 @@ fn row(index: usize, n: usize) -> [u8; 64]
 }
 
 // Holes: those of the row, or any number up to one above the stations.
-fn holes(index: usize, n: usize, row: &[u8; 64]) -> usize
+fn holes(index: usize, n: usize, row: &[u8; refusal::MOST_STATIONS]) -> usize
     requires { ⌜ index < 1000000 ⌝ }
     requires { ⌜ n < 68 ⌝ }
 {
@@ -82,7 +83,7 @@ fn holes(index: usize, n: usize, row: &[u8; 64]) -> usize
     }
     let mut ones: usize = 0;
     let mut i: usize = 0;
-    while i < 64 {
+    while i < refusal::MOST_STATIONS {
         ones += plain_rows::one_if(row[i] == 1);
         i += 1;
     }

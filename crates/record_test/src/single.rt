@@ -4,11 +4,11 @@ use walk::Stepped;
 use walk::Walk;
 
 // The row of 64 bytes that begins with some digits.
-fn row_of(digits: &[u8]) -> [u8; 64] {
-    let mut row = [0u8; 64];
+fn row_of(digits: &[u8]) -> [u8; refusal::MOST_STATIONS] {
+    let mut row = [0u8; refusal::MOST_STATIONS];
     let mut i: usize = 0;
     while i < digits.len() {
-        if i < 64 {
+        if i < refusal::MOST_STATIONS {
             row[i] = digits[i] % 16;
         }
         i += 1;

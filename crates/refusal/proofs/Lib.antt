@@ -4,3 +4,5 @@ pub mod Stations
 pub mod Numbers
 -- what the verdicts of the operations mean
 pub mod Conditions
+-- an outcome and its verdict
+pub mod Outcomes

@@ -3,7 +3,6 @@ use mathlib.Core.Bool.{Bool, true, false, _&&_}
 use Prim.Native.Nat.{ℕ}
 use lib.Dec.{leb}
 use Rattle.refusal.specs.declared.Refusal.{Refusal}
-use Rattle.refusal.specs.Refusals.{numberOf, placeOf}
 
 -- the most stations of a row
 abbrev pub mostStations : ℕ
@@ -22,8 +21,3 @@ pub data Verdict : Type 0 where
 abbrev pub need : Bool → Refusal → Verdict → Verdict
 need true r rest = rest
 need false r rest = refused r
-
--- "A refusal is a number and a place"; both are 0 where nothing is refused.
-abbrev pub verdictNumbers : Verdict → ℕ × ℕ
-verdictNumbers accepted = (0, 0)
-verdictNumbers (refused r) = (numberOf r, placeOf r)

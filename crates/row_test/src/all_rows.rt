@@ -5,12 +5,13 @@ use necklace::ClassAnswer;
 use necklace::KeyAnswer;
 use plain_rows::FRESH;
 ghost use Prim.Native.Nat.{_<_, _≤_};
+ghost use Rattle.refusal.specs.Verdicts.{mostStations};
 
 // The smallest turn that is least.
-fn first_least(row: &[u8; 64], n: usize) -> usize
+fn first_least(row: &[u8; refusal::MOST_STATIONS], n: usize) -> usize
     requires { ⌜ 0 < n ⌝ }
-    requires { ⌜ n ≤ 64 ⌝ }
-    ensures { λ r. ⌜ r ≤ 64 ⌝ }
+    requires { ⌜ n ≤ mostStations ⌝ }
+    ensures { λ r. ⌜ r ≤ mostStations ⌝ }
 {
     let mut j: usize = 0;
     while j < n {
@@ -23,9 +24,9 @@ fn first_least(row: &[u8; 64], n: usize) -> usize
 }
 
 // The smallest turn from 1 that gives the row back.
-fn first_same(row: &[u8; 64], n: usize) -> usize
+fn first_same(row: &[u8; refusal::MOST_STATIONS], n: usize) -> usize
     requires { ⌜ 0 < n ⌝ }
-    requires { ⌜ n ≤ 64 ⌝ }
+    requires { ⌜ n ≤ mostStations ⌝ }
 {
     let mut p: usize = 1;
     while p < n {
@@ -38,10 +39,15 @@ fn first_same(row: &[u8; 64], n: usize) -> usize
 }
 
 // Whether the first n bytes are turn j of the row.
-fn is_turn(out: &[u8; 64], row: &[u8; 64], n: usize, j: usize) -> bool
+fn is_turn(
+    out: &[u8; refusal::MOST_STATIONS],
+    row: &[u8; refusal::MOST_STATIONS],
+    n: usize,
+    j: usize,
+) -> bool
     requires { ⌜ 0 < n ⌝ }
-    requires { ⌜ n ≤ 64 ⌝ }
-    requires { ⌜ j ≤ 64 ⌝ }
+    requires { ⌜ n ≤ mostStations ⌝ }
+    requires { ⌜ j ≤ mostStations ⌝ }
 {
     let mut k: usize = 0;
     while k < n {
@@ -53,11 +59,11 @@ fn is_turn(out: &[u8; 64], row: &[u8; 64], n: usize, j: usize) -> bool
     true
 }
 
-fn key_agrees(row: [u8; 64], n: usize) -> bool
+fn key_agrees(row: [u8; refusal::MOST_STATIONS], n: usize) -> bool
     requires { ⌜ 0 < n ⌝ }
-    requires { ⌜ n ≤ 64 ⌝ }
+    requires { ⌜ n ≤ mostStations ⌝ }
 {
-    let mut out = [FRESH; 64];
+    let mut out = [FRESH; refusal::MOST_STATIONS];
     let answer = necklace::key(&row[..n], &mut out);
     let least = first_least(&row, n);
     if !is_turn(&out, &row, n, least) {
@@ -75,9 +81,9 @@ fn key_agrees(row: [u8; 64], n: usize) -> bool
     }
 }
 
-fn class_agrees(row: [u8; 64], n: usize) -> bool
+fn class_agrees(row: [u8; refusal::MOST_STATIONS], n: usize) -> bool
     requires { ⌜ 0 < n ⌝ }
-    requires { ⌜ n ≤ 64 ⌝ }
+    requires { ⌜ n ≤ mostStations ⌝ }
 {
     let shelved = plain_rows::is_least(&row, n, 0);
     match necklace::class(&row[..n]) {
@@ -96,9 +102,9 @@ fn class_agrees(row: [u8; 64], n: usize) -> bool
 }
 
 // Whether the row has no hole, or ends in one.
-fn has_list(row: &[u8; 64], n: usize) -> bool
+fn has_list(row: &[u8; refusal::MOST_STATIONS], n: usize) -> bool
     requires { ⌜ 0 < n ⌝ }
-    requires { ⌜ n ≤ 64 ⌝ }
+    requires { ⌜ n ≤ mostStations ⌝ }
 {
     let mut i: usize = 0;
     while i < n {
@@ -111,30 +117,35 @@ fn has_list(row: &[u8; 64], n: usize) -> bool
 }
 
 // Whether the first k gaps of a list give the row.
-fn gives_row(list: [usize; 64], k: usize, row: &[u8; 64], n: usize) -> bool
-    requires { ⌜ k ≤ 64 ⌝ }
+fn gives_row(
+    list: [usize; refusal::MOST_STATIONS],
+    k: usize,
+    row: &[u8; refusal::MOST_STATIONS],
+    n: usize,
+) -> bool
+    requires { ⌜ k ≤ mostStations ⌝ }
     requires { ⌜ 0 < n ⌝ }
-    requires { ⌜ n ≤ 64 ⌝ }
+    requires { ⌜ n ≤ mostStations ⌝ }
 {
-    let mut out = [FRESH; 64];
+    let mut out = [FRESH; refusal::MOST_STATIONS];
     gaps::row_of_gaps(n, &list[..k], &mut out);
     is_turn(&out, row, n, 0)
 }
 
 // What the row's gap list comes to: 0 it gives the row back, 255 it does not, else the refusal's number.
-fn list_number(row: [u8; 64], n: usize) -> u8
+fn list_number(row: [u8; refusal::MOST_STATIONS], n: usize) -> u8
     requires { ⌜ 0 < n ⌝ }
-    requires { ⌜ n ≤ 64 ⌝ }
+    requires { ⌜ n ≤ mostStations ⌝ }
 {
-    let mut list = [FRESH_GAP; 64];
+    let mut list = [FRESH_GAP; refusal::MOST_STATIONS];
     match gaps::gaps_of_row(&row[..n], &mut list) {
         ListAnswer::Listed(k) => {
-            if 64 < k {
+            if refusal::MOST_STATIONS < k {
                 return 255;
             }
             if gives_row(list, k, &row, n) { 0 } else { 255 }
         }
-        ListAnswer::NoList(r) => refusal::number(r),
+        ListAnswer::Refused(r) => refusal::number(r),
     }
 }
 
@@ -147,9 +158,9 @@ enum Compared {
 }
 
 // Whether the comparison is one of this row.
-fn concerns(what: Compared, row: &[u8; 64], n: usize) -> bool
+fn concerns(what: Compared, row: &[u8; refusal::MOST_STATIONS], n: usize) -> bool
     requires { ⌜ 0 < n ⌝ }
-    requires { ⌜ n ≤ 64 ⌝ }
+    requires { ⌜ n ≤ mostStations ⌝ }
 {
     match what {
         Compared::Key => true,
@@ -159,9 +170,9 @@ fn concerns(what: Compared, row: &[u8; 64], n: usize) -> bool
     }
 }
 
-fn agrees(what: Compared, row: [u8; 64], n: usize) -> bool
+fn agrees(what: Compared, row: [u8; refusal::MOST_STATIONS], n: usize) -> bool
     requires { ⌜ 0 < n ⌝ }
-    requires { ⌜ n ≤ 64 ⌝ }
+    requires { ⌜ n ≤ mostStations ⌝ }
 {
     match what {
         Compared::Key => key_agrees(row, n),
@@ -178,7 +189,7 @@ struct Counts {
 
 fn compare_rows(what: Compared, n: usize) -> Counts
     requires { ⌜ 0 < n ⌝ }
-    requires { ⌜ n ≤ 64 ⌝ }
+    requires { ⌜ n ≤ mostStations ⌝ }
     ensures { λ r. ⌜ (r .compared ≤ 1024) × (r .agreed ≤ 1024) ⌝ }
 {
     let rows = plain_rows::count_rows(n);

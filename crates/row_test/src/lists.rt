@@ -36,7 +36,7 @@ fn print_list(answer: ListAnswer, out: &[usize; 80]) {
             io::write_all(1, b":");
             print_gaps(k, out);
         }
-        ListAnswer::NoList(r) => plain_rows::print_refusal(r),
+        ListAnswer::Refused(r) => plain_rows::print_refusal(r),
     }
     plain_rows::print_as_before(count_fresh_gaps(out));
 }
@@ -59,7 +59,7 @@ fn show_list(digits: &[u8], room: usize)
 fn print_written(answer: RowAnswer, n: usize, out: &[u8; 80]) {
     match answer {
         RowAnswer::Written => plain_rows::print_row(n, out),
-        RowAnswer::NoRow(r) => plain_rows::print_refusal(r),
+        RowAnswer::Refused(r) => plain_rows::print_refusal(r),
     }
     plain_rows::print_as_before(plain_rows::count_fresh(out));
 }

@@ -6,13 +6,13 @@ use Rattle.density.specs.Necklaces.{begins, isKind, isNecklaceOf, largestNeckla
 use Rattle.gaps.specs.Gaps.{gapsFrom, gapsOfRow}
 use Rattle.refusal.specs.Verdicts.{areStations}
 use Rattle.specimens.specs.Starred.{Say, starred}
-use Rattle.walk.specs.Fit.{allUpTo, fit, fitAt, fitRow, fitSizes}
+use Rattle.walk.specs.Fit.{fit, fitAt, fitRow, fitSizes}
 use Rattle.walk.specs.Moves.{moveAt}
 use Rattle.walk.specs.Opening.{openVerdict}
 use Rattle.walk.specs.Step.{enough, run, stepOf, walkAnswers}
 use Rattle.words.specs.Order.{cmp, le, lt, same}
 use Rattle.words.specs.Rotation.{isLeastAt, isLyndon, isNecklace, leastIndex, leastRotation, period, rotation}
-use Rattle.words.specs.Symbols.{firstWrong}
+use Rattle.words.specs.Symbols.{allUpTo, firstWrong}
 use Rattle.words.specs.Tests.{allBelow, any, firstFrom, isPrefix, keep}
 
 pub starred-hold : Say starred

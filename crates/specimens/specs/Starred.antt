@@ -6,9 +6,9 @@ use Prim.Native.Nat.{ℕ}
 use Rattle.words.specs.Rotation.{leastRotation, leastIndex, period}
 use Rattle.density.specs.Necklaces.{begins, largestNecklace}
 use Rattle.gaps.specs.Gaps.{gapsOfRow}
-use Rattle.walk.specs.Listing.{Said, ring, none, told}
+use Rattle.listing.specs.Listing.{Line, ring, none, says, told}
 use Rattle.walk.specs.Moves.{rules}
-use Rattle.walk.specs.Opening.{openAnswer, openVerdict}
+use Rattle.walk.specs.Opening.{openVerdict, openWalk}
 use Rattle.walk.specs.Step.{walkAnswers}
 
 pub data Specimen : Type 0 where
@@ -21,7 +21,7 @@ pub data Specimen : Type 0 where
   -- gaps of a row
   gaps : List ℕ → List ℕ → Specimen
   -- drawer (n, d), kind, limit: the first answer of the walk that opening hands out, and its trials
-  step : ℕ → ℕ → ℕ → List ℕ → Said → ℕ → Specimen
+  step : ℕ → ℕ → ℕ → List ℕ → Line → ℕ → Specimen
 
 -- what a specimen says
 abbrev pub Says : Specimen → Type 0
@@ -29,7 +29,7 @@ Says (key w least turn p) = (leastRotation w ≡ least) × (leastIndex w ≡ tur
 Says (prefix n d p answer) = begins n d p ≡ answer
 Says (top n d w) = largestNecklace n d ≡ w
 Says (gaps w list) = gapsOfRow w ≡ list
-Says (step n d kind limit said trials) = walkAnswers rules (openAnswer (openVerdict n d kind limit) rules n d kind limit .walk) (100 ∷ []) ≡ told said trials ∷ []
+Says (step n d kind limit line trials) = walkAnswers rules (openWalk (openVerdict n d kind limit) rules n d kind limit) (100 ∷ []) ≡ told (says line) trials ∷ []
 
 -- what all of a list say
 abbrev pub Say : List Specimen → Type 0

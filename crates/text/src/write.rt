@@ -1,8 +1,9 @@
 // Writing pieces of text into a lent buffer that has room for them.
 ghost use mathlib.Core.Path.{_≡_};
-ghost use mathlib.Core.List.{_++_, map};
+ghost use mathlib.Core.List.{map};
 ghost use Prim.Native.Nat.{_+_, _≤_};
-ghost use lib.ListN.{length, drop};
+ghost use lib.ListN.{length};
+ghost use Rattle.words.specs.Buffers.{fronted};
 ghost use Rattle.text.specs.Decimals.{decimal, field};
 ghost use Rattle.text.specs.Symbols.{symbolOf, characterOf, rowField};
 ghost use Rattle.text.specs.Buffers.{placed};
@@ -23,7 +24,7 @@ pub fn symbol(byte: u8) -> u8
 // The symbols of a limit to the front of a buffer.
 pub fn write_symbols(bytes: &[u8], out: &mut [u8])
     requires { ⌜ length (now bytes) ≤ length (now out) ⌝ }
-    ensures { λ r. ⌜ now (out .exit) ≡ map symbolOf (now (bytes .entry)) ++ drop (length (now (bytes .entry))) (now (out .entry)) ⌝ }
+    ensures { λ r. ⌜ now (out .exit) ≡ fronted (map symbolOf (now (bytes .entry))) (now (out .entry)) ⌝ }
 {
     let mut i: usize = 0;
     while i < bytes.len() {
@@ -60,11 +61,7 @@ pub fn put(out: &mut [u8], at: usize, piece: &[u8]) -> usize
     requires { ⌜ at + length (now piece) ≤ length (now out) ⌝ }
     ensures { λ r. ⌜ (r ≡ at + length (now (piece .entry))) × (now (out .exit) ≡ placed (now (out .entry)) at (now (piece .entry))) ⌝ }
 {
-    let mut i: usize = 0;
-    while i < piece.len() {
-        out[at + i] = piece[i];
-        i += 1;
-    }
+    words::inner::write_front(piece, &mut out[at..]);
     at + piece.len()
 }
 

@@ -2,12 +2,13 @@
 use density::Top;
 use plain_rows::FRESH;
 ghost use Prim.Native.Nat.{_<_, _≤_};
+ghost use Rattle.refusal.specs.Verdicts.{mostStations};
 
 // Whether each symbol of the row is floor(i d / n) - floor((i - 1) d / n), at its place i.
-fn agrees(n: usize, d: usize, row: &[u8; 64]) -> bool
+fn agrees(n: usize, d: usize, row: &[u8; refusal::MOST_STATIONS]) -> bool
     requires { ⌜ 0 < n ⌝ }
-    requires { ⌜ n ≤ 64 ⌝ }
-    requires { ⌜ d ≤ 64 ⌝ }
+    requires { ⌜ n ≤ mostStations ⌝ }
+    requires { ⌜ d ≤ mostStations ⌝ }
 {
     let mut product: usize = 0;
     let mut i: usize = 0;
@@ -25,10 +26,10 @@ fn agrees(n: usize, d: usize, row: &[u8; 64]) -> bool
 // Whether the top ring of (n, d) is written, and agrees.
 fn top_agrees(n: usize, d: usize) -> bool
     requires { ⌜ 0 < n ⌝ }
-    requires { ⌜ n ≤ 64 ⌝ }
-    requires { ⌜ d ≤ 64 ⌝ }
+    requires { ⌜ n ≤ mostStations ⌝ }
+    requires { ⌜ d ≤ mostStations ⌝ }
 {
-    let mut out = [FRESH; 64];
+    let mut out = [FRESH; refusal::MOST_STATIONS];
     let top = density::largest_necklace(n, d, &mut out);
     match top {
         Top::Written => agrees(n, d, &out),
@@ -41,7 +42,7 @@ fn compare_all() {
     let mut compared: usize = 0;
     let mut agreed: usize = 0;
     let mut n: usize = 1;
-    while n <= 64 {
+    while n <= refusal::MOST_STATIONS {
         let mut d: usize = 0;
         while d <= n {
             agreed += plain_rows::one_if(top_agrees(n, d));
@@ -53,7 +54,7 @@ fn compare_all() {
     plain_rows::print_counts(compared, agreed);
 }
 
-fn print_answer(top: Top, n: usize, out: &[u8; 64]) {
+fn print_answer(top: Top, n: usize, out: &[u8; refusal::MOST_STATIONS]) {
     match top {
         Top::Written => plain_rows::print_row(n, out),
         Top::Refused(r) => plain_rows::print_refusal(r),
@@ -63,9 +64,9 @@ fn print_answer(top: Top, n: usize, out: &[u8; 64]) {
 
 // A line for the question of (n, d) with a buffer of 64 bytes, of which room are lent.
 fn show(n: usize, d: usize, room: usize)
-    requires { ⌜ room ≤ 64 ⌝ }
+    requires { ⌜ room ≤ mostStations ⌝ }
 {
-    let mut out = [FRESH; 64];
+    let mut out = [FRESH; refusal::MOST_STATIONS];
     let top = density::largest_necklace(n, d, &mut out[..room]);
     plain_rows::print_named(b"", n);
     plain_rows::print_named(b" ", d);
@@ -74,7 +75,7 @@ fn show(n: usize, d: usize, room: usize)
 }
 
 fn show_all(most: usize)
-    requires { ⌜ most ≤ 64 ⌝ }
+    requires { ⌜ most ≤ mostStations ⌝ }
 {
     let mut n: usize = 1;
     while n <= most {

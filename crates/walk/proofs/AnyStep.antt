@@ -6,20 +6,21 @@ use Prim.Native.Nat.{ℕ, _<_, _≤_}
 use native.Mathlib.Nat.{zero-add}
 use native.Mathlib.Omega.{arith}
 use lib.ListN.{length}
+use Rattle.listing.proofs.RingsNamed.{refused≢line}
+use Rattle.listing.proofs.Strikes.{Coming, coming}
+use Rattle.listing.specs.Listing.{Line, says}
+use Rattle.listing.specs.Totals.{owed}
 use Rattle.refusal.proofs.Numbers.{some-number}
 use Rattle.walk.proofs.Enough.{moves-enough}
 use Rattle.walk.proofs.Good.{Fit, fit-at, fit-sound}
-use Rattle.walk.proofs.Needed.{first-said, needed-owed, spent-due}
+use Rattle.walk.proofs.Needed.{needed-owed, spent-due}
 use Rattle.walk.proofs.Runs.{Ran, given, saidAs, spent}
 use Rattle.walk.proofs.Steps.{ended-step, fit-placed, fit-step, good-step, stands-closed}
-use Rattle.walk.proofs.Strikes.{Closed, Coming, coming}
 use Rattle.walk.specs.Course.{Good, GoodAt, size}
 use Rattle.walk.specs.Fit.{fit}
-use Rattle.walk.specs.Listing.{Listing, Said, entry}
 use Rattle.walk.specs.Moves.{Rules, moveAt, trial}
 use Rattle.walk.specs.Step.{answerNumbers, enough, stepFit, stepNumbers, stepOf, trialsNeeded}
 use Rattle.walk.specs.ToCome.{stands}
-use Rattle.walk.specs.Totals.{owed}
 use Rattle.walk.specs.declared.Answer.{Answer}
 use Rattle.walk.specs.declared.Answer.the-variants.{None, Refused, Ring}
 use Rattle.walk.specs.declared.Standing.the-variants.{Ended}
@@ -44,10 +45,10 @@ same-trials None v k = refl
 same-trials (Refused r) v k = refl
 
 -- an answer that says a ring or none has no number
-no-number : (t : Answer) (v : Walk) (k : ℕ) {l : Listing} {s : Said} {o : ℕ} {rest : Listing} → Closed l → l ≡ entry s o rest → saidAs t v ≡ s → answerNumbers t v k .number ≡ 0
-no-number Ring v k c e q = refl
-no-number None v k c e q = refl
-no-number (Refused r) v k c e q = let n = some-number r in absurd (first-said c e (sym (rw (n .1) at q)))
+no-number : (t : Answer) (v : Walk) (k : ℕ) {s : Line} → saidAs t v ≡ says s → answerNumbers t v k .number ≡ 0
+no-number Ring v k q = refl
+no-number None v k q = refl
+no-number (Refused r) v k q = let n = some-number r in absurd (refused≢line (rw (n .1) at q))
 
 module _ (R : Rules) (w : Walk) (a : ℕ) (long : length (w .row) ≡ R .most) where
   good-case : (f : Fit R w) (g : Good R w) → StepCase R w a (stepOf R w a)
@@ -66,20 +67,20 @@ module _ (R : Rules) (w : Walk) (a : ℕ) (long : length (w .row) ≡ R .most) w
       needs = needed-owed R w g ∙ ap owed (b .is)
 
       under : Unended R w
-      under = record { fits = f .test; going = λ e. subst (λ s. GoodAt s (w .n) (w .d) (w .row)) e (g .placed) }
+      under = record { fits = f .test; going = λ e. subst (λ s. GoodAt s w) e (g .placed) }
 
-      go : Ran R (Good R) (Fit R) (stands R) size a 0 (b .said) (b .owed) (b .rest) (stepOf R w a) → StepCase R w a (stepOf R w a)
+      go : Ran R (Good R) (Fit R) (stands R) size a 0 (b .first) (b .owed) (b .rest) (stepOf R w a) → StepCase R w a (stepOf R w a)
       go (spent l p q fits left) =
           let due = spent-due R (enough (w .n)) a 0 w (moves-enough g) g (sym (ap (λ r. r .answer) (fit-step R w a f)) ∙ p) in
           spent-case (ap (λ t. answerNumbers t (r .walk) (r .trials) .number) p) under (omega (arith, needs)) (made ∙ q ∙ zero-add a) (due .0) (ap (λ r. moveAt R (r .walk .at) (r .walk)) (fit-step R w a f) ∙ due .1)
       go (given l p q fits left) =
-          given-case (no-number (r .answer) (r .walk) (r .trials) (stands-closed R w g) (b .is) p) under (omega (arith, needs)) (made ∙ q ∙ zero-add (b .owed) ∙ sym needs)
+          given-case (no-number (r .answer) (r .walk) (r .trials) p) under (omega (arith, needs)) (made ∙ q ∙ zero-add (b .owed) ∙ sym needs)
 
   pub step-case : StepCase R w a (stepOf R w a)
   unfolding stepOf
   step-case = go (fit R w) refl
     where
-      placed : (f : Fit R w) → (w .at ≡ Ended) ⊎ GoodAt (w .at) (w .n) (w .d) (w .row) → StepCase R w a (stepOf R w a)
+      placed : (f : Fit R w) → (w .at ≡ Ended) ⊎ GoodAt (w .at) w → StepCase R w a (stepOf R w a)
       placed f (inl e) =
           let s = ended-step R w a f e in
           ended-case (ap (λ r. stepNumbers r .number) s) (f .test) e (ap (λ r. r .walk) s) (ap (λ r. stepNumbers r .trials) s)

@@ -1,33 +1,27 @@
 -- Going on below a ring, and none: what these moves do to the rows and the lines to come.
-use mathlib.Core.Bool.{true, true≢false}
+use mathlib.Core.Bool.{true}
 use mathlib.Core.List.{List, [], append-nil, _++_, _∷_}
 use mathlib.Core.Logic.{inl, inr, _⊎_}
-use mathlib.Core.Path.{ap, refl, subst, sym, _∙_, _≡_}
-use Prim.Native.Nat.{suc, zero, ℕ, _+_, _-_, _≤_}
+use mathlib.Core.Path.{ap, subst, _∙_, _≡_}
+use Prim.Native.Nat.{suc, ℕ, _+_, _-_, _≤_}
 use native.Mathlib.Nat.{sub-zero}
 use native.Mathlib.Omega.{arith}
 use lib.ListN.{getD, length, set, take}
 use lib.Seq.{length-take-le, take-suc, take-suc-set}
-use Rattle.density.proofs.Binary.{Binary, binary-behind, one∷, zero∷}
-use Rattle.density.proofs.Members.{Member, member→}
-use Rattle.density.specs.Density.{density}
-use Rattle.density.specs.Necklaces.{necklaces}
-use Rattle.walk.proofs.Ends.{all-zeros, ends-zero, no-end}
-use Rattle.walk.proofs.Prices.{density-zeros, lines-cleared}
-use Rattle.walk.proofs.Rounds.{down-no, within}
-use Rattle.walk.specs.Listing.{entry, front, linesFrom, necklacesBelow, none, over}
+use Rattle.density.proofs.Binary.{binary-behind}
+use Rattle.density.proofs.Branching.{down-no, within}
+use Rattle.density.proofs.Counts.{density-zeros}
+use Rattle.density.proofs.LastSymbol.{all-zeros, ends-zero, last-bit, no-end}
+use Rattle.density.proofs.Members.{Member}
+use Rattle.density.proofs.RowsBelow.{under-zeros}
+use Rattle.density.specs.Necklaces.{necklacesBelow}
+use Rattle.listing.proofs.Prices.{front-zeros, lines-cleared}
+use Rattle.listing.specs.Listing.{entry, linesFrom, none, over}
 use Rattle.walk.specs.ToCome.{linesAt, lowest, rowsAt}
 use Rattle.walk.specs.declared.Standing.the-variants.{Down, Given}
-use Rattle.words.proofs.Beside.{not-under-zeros}
-use Rattle.words.proofs.Falling.{keep-none}
-use Rattle.words.specs.Order.{lt}
 use Rattle.words.specs.Symbols.{zeros}
 
 -- ---- nothing is below zeros
-
-under-zeros : (n d : ℕ) → necklacesBelow n d (zeros n) ≡ []
-unfolding necklacesBelow
-under-zeros n d = keep-none (λ r. lt r (zeros n)) (necklaces n d) (λ r m e. true≢false (sym e ∙ not-under-zeros r n (member→ n d r m .long)))
 
 pub none-rows : (n d : ℕ) (row : List ℕ) → rowsAt (Down 0) n d row ≡ []
 unfolding rowsAt
@@ -36,12 +30,6 @@ none-rows n d row = rw sub-zero (under-zeros n d)
 pub none-lines : (n d : ℕ) (row : List ℕ) → linesAt (Down 0) n d row ≡ entry none 0 over
 unfolding linesAt linesFrom
 none-lines n d row = rw (none-rows n d row, sub-zero, density-zeros n)
-
-front-zeros : (n : ℕ) → density (front (zeros n)) ≡ 0
-unfolding density front
-front-zeros zero = refl
-front-zeros (suc zero) = refl
-front-zeros (suc (suc n)) = front-zeros (suc n)
 
 -- ---- with no holes: the ring is the last
 
@@ -58,10 +46,6 @@ module _ (n : ℕ) (row : List ℕ) (ring-in : Member n 0 (take n row)) where
   last-lines = rw (last-rows, none-rows n 0 row, zero-row, sub-zero, front-zeros n, density-zeros n)
 
 -- ---- with holes: it ends in a hole, which is cleared
-
-last-bit : {b : ℕ} → Binary (b ∷ []) → (b ≡ 0) ⊎ (b ≡ 1)
-last-bit (zero∷ c) = inl refl
-last-bit (one∷ c) = inr refl
 
 module _ (n d : ℕ) (row : List ℕ) (some : 1 ≤ n) (within-row : n ≤ length row) where
   end-at : suc (n - 1) ≡ n

@@ -1,30 +1,27 @@
 -- For every list of steps a fit walk answers as the book of what it stands for; a fresh walk stands for the drawer's book.
 use mathlib.Core.Bool.{true}
-use mathlib.Core.List.{List, [], _++_, _∷_}
+use mathlib.Core.List.{List, [], _∷_}
 use mathlib.Core.Path.{ap, refl, _∙_, _≡_}
 use Prim.Native.Nat.{ℕ, _-_, _≤_}
 use native.Mathlib.Omega.{arith}
-use lib.Dec.{eqb, leb}
 use lib.ListN.{length, length-append, length-replicate}
 use lib.Seq.{drop-at, take-at}
-use borrow.Author.Tests.{eqb-true, leb-true}
-use Rattle.density.proofs.Binary.{Binary, no-wrong}
-use Rattle.density.specs.Necklaces.{isKind, ofKind}
-use Rattle.refusal.proofs.Conditions.{need→}
-use Rattle.refusal.proofs.Stations.{stations→}
-use Rattle.refusal.specs.Verdicts.{accepted, areStations}
-use Rattle.walk.proofs.Good.{Fit, sound-fit, zeros-clean}
+use Rattle.density.proofs.DrawerVerdicts.{accepted→}
+use Rattle.density.proofs.Binary.{Binary}
+use Rattle.listing.specs.Listing.{listing, listingAnswers}
+use Rattle.listing.specs.Totals.{listingLeft}
+use Rattle.refusal.specs.Verdicts.{accepted}
+use Rattle.walk.proofs.Good.{Fit, sound-fit}
 use Rattle.walk.proofs.Steps.{step-agrees}
 use Rattle.walk.specs.Course.{Sound}
 use Rattle.walk.specs.Fit.{fitAt}
-use Rattle.walk.specs.Listing.{listing, listingAnswers}
 use Rattle.walk.specs.Moves.{Rules, rules}
 use Rattle.walk.specs.Opening.{fresh, openVerdict}
 use Rattle.walk.specs.Step.{handed, stepOf, walkAnswers}
 use Rattle.walk.specs.ToCome.{linesAt, stands}
-use Rattle.walk.specs.Totals.{listingLeft}
 use Rattle.walk.specs.declared.Walk.{Walk}
-use Rattle.words.specs.Symbols.{firstWrong, zeros}
+use Rattle.words.proofs.HighestSymbol.{zeros-clean}
+use Rattle.words.specs.Symbols.{zeros}
 
 pub answers-agree : (R : Rules) (w : Walk) → Fit R w → (allowances : List ℕ) → walkAnswers R w allowances ≡ listingAnswers (stands R w) allowances
 unfolding walkAnswers listingAnswers
@@ -64,7 +61,7 @@ module _ (R : Rules) (n d kind : ℕ) (limit : List ℕ) (o : Admitted R n d kin
       rest : List ℕ
       rest = zeros (R .most - n)
 
-      sound : Sound R n d kind (limit ++ rest)
+      sound : Sound R (fresh R n d kind limit)
       sound = record {
         some = o .stations;
         most = o .most;
@@ -82,19 +79,6 @@ module _ (R : Rules) (n d kind : ℕ) (limit : List ℕ) (o : Admitted R n d kin
 -- ---- what opening hands out, when it refuses nothing
 
 pub accepted-opening : (n d kind : ℕ) (limit : List ℕ) → openVerdict n d kind limit ≡ accepted → Admitted rules n d kind limit
-unfolding openVerdict
 accepted-opening n d kind limit e =
-    let a = need→ (areStations n) _ _ e in
-    let b = need→ (leb d n) _ _ (a .1) in
-    let c = need→ (isKind kind) _ _ (b .1) in
-    let l = need→ (eqb (length limit) n) _ _ (c .1) in
-    let f = need→ (eqb (firstWrong 2 limit) 0) _ _ (l .1) in
-    let s = stations→ n (a .0) in
-    record {
-      stations = s .some;
-      most = s .most;
-      dense = leb-true d n (b .0);
-      kinds = c .0;
-      long = eqb-true (length limit) n (l .0);
-      binary = no-wrong limit (eqb-true (firstWrong 2 limit) 0 (f .0));
-    }
+    let p = accepted→ n d kind limit e in
+    record { stations = p .sized .some; most = p .sized .most; dense = p .dense; kinds = p .kinds; long = p .long; binary = p .binary }

@@ -6,11 +6,11 @@ use Prim.Native.Nat.{suc, ℕ, _+_, _-_, _<_, _≤_}
 use native.Mathlib.Omega.{arith}
 use lib.ListN.{getD, length, set, take}
 use lib.Seq.{length-take-le, take-suc, take-suc-set}
+use Rattle.density.proofs.Branching.{down-no, down-yes, next, up-no, within}
 use Rattle.density.proofs.Members.{Member, member-test, necklaces-falling, →member}
-use Rattle.density.specs.Necklaces.{begins, isNecklaceOf}
-use Rattle.walk.proofs.Prices.{lines-dearer, price-next}
-use Rattle.walk.proofs.Rounds.{down-no, down-yes, next, up-no, within}
-use Rattle.walk.specs.Listing.{Listing, allLines, entry, linesFrom, necklacesBelow, necklacesUpTo, raise, ring}
+use Rattle.density.specs.Necklaces.{begins, isNecklaceOf, necklacesBelow, necklacesUpTo}
+use Rattle.listing.proofs.Prices.{lines-dearer, price-next}
+use Rattle.listing.specs.Listing.{Listing, allLines, entry, linesFrom, raise, ring}
 use Rattle.walk.specs.ToCome.{firstAt, highestOf, linesAt, lowest, rowsAt}
 use Rattle.walk.specs.declared.Standing.the-variants.{Down, Given, Limit, Up}
 use Rattle.words.proofs.Falling.{at-or-below}

@@ -1,52 +1,28 @@
 -- The test of a record, as plain facts.
-use mathlib.Core.Bool.{false≢true, true, _&&_}
-use mathlib.Core.List.{List, [], _∷_}
-use mathlib.Core.Logic.{inl, inr, _⊎_}
+use mathlib.Core.Bool.{true, _&&_}
 use mathlib.Core.Path.{refl, _≡_}
-use Prim.Native.Nat.{suc, zero, ℕ, _+_, _-_, _≤_}
+use Prim.Native.Nat.{_+_, _-_}
 use native.Mathlib.Omega.{arith}
 use lib.Dec.{leb}
-use lib.ListN.{drop, getD, take}
+use lib.ListN.{drop, take}
 use lib.Seq.{getD-drop, length-take-le}
 use borrow.Author.Tests.{le-leb, leb-true}
 use Rattle.density.proofs.Binary.{binary-within, within-binary}
+use Rattle.density.proofs.KindTests.{is-one, one-of}
 use Rattle.density.proofs.Members.{member-test, member→, test-member, →member}
-use Rattle.density.specs.Necklaces.{begins, isKind, isNecklaceOf, ofKind}
-use Rattle.walk.specs.Course.{Sound}
+use Rattle.density.specs.Necklaces.{begins, isNecklaceOf, ofKind}
 use Rattle.walk.proofs.Good.{Fit, fit-at, fit-sound, sound-fit}
 use Rattle.walk.specs.Claims.{FitMeans}
-use Rattle.walk.specs.Fit.{FitAt, FitRecord, allUpTo, fit, fitAt}
+use Rattle.walk.specs.Course.{Sound}
+use Rattle.walk.specs.Fit.{FitAt, FitRecord, fit, fitAt}
 use Rattle.walk.specs.Moves.{rowOf, rules}
 use Rattle.walk.specs.declared.Standing.{Standing}
 use Rattle.walk.specs.declared.Standing.the-variants.{Down, Ended, Given, Limit, Up}
 use Rattle.walk.specs.declared.Walk.{Walk}
 use Rattle.words.proofs.Booleans.{and→, →and}
+use Rattle.words.proofs.HighestSymbol.{up-to→, →up-to}
 
-up-to→ : (b : ℕ) (x : List ℕ) → allUpTo b x ≡ true → (i : ℕ) → getD x i 0 ≤ b
-unfolding allUpTo
-up-to→ b [] e i = omega arith
-up-to→ b (y ∷ x) e zero = leb-true y b (and→ (leb y b) (allUpTo b x) e .0)
-up-to→ b (y ∷ x) e (suc i) = up-to→ b x (and→ (leb y b) (allUpTo b x) e .1) i
-
-→up-to : (b : ℕ) (x : List ℕ) → ((i : ℕ) → getD x i 0 ≤ b) → allUpTo b x ≡ true
-unfolding allUpTo
-→up-to b [] h = refl
-→up-to b (y ∷ x) h = →and (le-leb y b (h 0)) (→up-to b x (λ i. h (suc i)))
-
--- of two kinds
-pub one-of : (kind : ℕ) → isKind kind ≡ true → (kind ≡ 1) ⊎ (kind ≡ 2)
-unfolding isKind
-one-of zero e = absurd (false≢true e)
-one-of (suc zero) e = inl refl
-one-of (suc (suc zero)) e = inr refl
-one-of (suc (suc (suc k))) e = absurd (false≢true e)
-
-is-one : (kind : ℕ) → (kind ≡ 1) ⊎ (kind ≡ 2) → isKind kind ≡ true
-unfolding isKind
-is-one kind (inl e) = rw e
-is-one kind (inr e) = rw e
-
-module _ (w : Walk) (s : Sound rules (w .n) (w .d) (w .kind) (w .row)) where
+module _ (w : Walk) (s : Sound rules w) where
   -- the standing, both ways
   at→ : (p : Standing) → fitAt rules p w ≡ true → FitAt p w
   unfolding fitAt
@@ -90,7 +66,7 @@ fit-means w long = (facts, passes)
 
     passes : FitRecord w → fit rules w ≡ true
     passes r =
-        let s : Sound rules (w .n) (w .d) (w .kind) (w .row) = record {
+        let s : Sound rules w = record {
           some = r .some;
           most = r .most;
           dense = r .holes;

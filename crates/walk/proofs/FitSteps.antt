@@ -1,43 +1,36 @@
 -- The tests of a record, one after the other.
 use mathlib.Core.Bool.{Bool, and-assoc, false, true, _&&_}
-use mathlib.Core.List.{List, [], _∷_}
+use mathlib.Core.List.{List}
 use mathlib.Core.Path.{ap, refl, subst, sym, _∙_, _≡_}
 use Prim.Native.Nat.{suc, zero, ℕ, _-_, _<_, _≤_}
 use native.Mathlib.Omega.{arith}
 use lib.Dec.{eqb, leb}
 use lib.ListN.{drop, length, length-drop, take, take-append-drop}
-use lib.Seq.{length-take-le, take-all}
+use lib.Seq.{take-all}
 use borrow.Author.Tests.{le-leb, leb-true, lt-leb, ne-eqb}
-use Rattle.density.proofs.Binary.{Binary, binary-append, binary-at, binary-cons, empty}
+use Rattle.density.proofs.Binary.{Binary, binary-append, binary-within, test-binary}
 use Rattle.density.proofs.Members.{isNecklaceOf→}
 use Rattle.density.specs.Necklaces.{begins, isKind, isNecklaceOf, ofKind}
-use Rattle.prefix.proofs.Places.{symbols-take}
-use Rattle.prefix.specs.Search.{Symbols}
 use Rattle.refusal.proofs.Stations.{Sized, stations→}
 use Rattle.refusal.specs.Verdicts.{areStations, mostStations}
-use Rattle.walk.proofs.Good.{test-binary}
-use Rattle.walk.specs.Fit.{allUpTo, fit, fitAt, fitRow, fitSizes}
-use Rattle.walk.specs.Moves.{rowOf, rules}
 use Rattle.walk.specs.Course.{Fitting}
+use Rattle.walk.specs.Fit.{fit, fitAt, fitRow, fitSizes}
+use Rattle.walk.specs.Moves.{rowOf, rules}
 use Rattle.walk.specs.declared.Standing.{Standing}
 use Rattle.walk.specs.declared.Standing.the-variants.{Down, Ended, Given, Up}
 use Rattle.walk.specs.declared.Walk.{Walk}
 use Rattle.words.proofs.Booleans.{and→}
 use Rattle.words.proofs.Rotations.{→isNecklace}
 use Rattle.words.specs.Rotation.{isNecklace}
+use Rattle.words.specs.Symbols.{Within, allUpTo}
 
 zero-test : (s : ℕ) → eqb s 0 ≡ leb s 0
 zero-test zero = refl
 zero-test (suc s) = ne-eqb (suc s) 0 (λ e. omega arith) ∙ sym (lt-leb (suc s) 0 (omega arith))
 
-pub clean-binary : (x : List ℕ) → allUpTo 0 x ≡ true → Binary x
-unfolding allUpTo
-clean-binary [] e = empty
-clean-binary (y ∷ x) e = let a = and→ (leb y 0) (allUpTo 0 x) e in binary-cons y (omega (arith, leb-true y 0 (a .0))) (clean-binary x (a .1))
-
 -- the rest of an array of 64, from n on
-pub from-n : (xs : List ℕ) (n : ℕ) → length xs ≡ 64 → take (64 - n) (drop n xs) ≡ drop n xs
-from-n xs n e = take-all (64 - n) (drop n xs) (simp length-drop (omega arith))
+pub from-n : (xs : List ℕ) (n : ℕ) → length xs ≡ mostStations → take (mostStations - n) (drop n xs) ≡ drop n xs
+from-n xs n e = take-all (mostStations - n) (drop n xs) (simp length-drop (omega arith))
 
 module _ (w : Walk) where
   -- n is tested as the stations are
@@ -71,11 +64,11 @@ module _ (w : Walk) where
   row-low r s h l k = rw (h 1 ∙ le-leb r 1 l, k 0) (zero-test s)
 
   -- a fit row holds zeros and ones
-  pub row-symbols : fitRow w ≡ true → Symbols (w .row)
+  pub row-symbols : fitRow w ≡ true → Within 2 (w .row)
   unfolding fitRow
   row-symbols e =
       let a = and→ (allUpTo 1 (rowOf w)) (allUpTo 0 (drop (w .n) (w .row))) e in
-      binary-at (subst Binary (take-append-drop (w .n) (w .row)) (binary-append (test-binary (rowOf w) (a .0)) (clean-binary (drop (w .n) (w .row)) (a .1))))
+      binary-within (subst Binary (take-append-drop (w .n) (w .row)) (binary-append (test-binary 1 (rowOf w) (omega arith) (a .0)) (test-binary 0 (drop (w .n) (w .row)) (omega arith) (a .1))))
 
   -- ---- where it stands
 
@@ -127,11 +120,11 @@ module _ (w : Walk) where
   fit-so-far e = sym (by-record ∙ rw e)
 
   -- what the record's own tests show
-  pub record-fitting : (fitSizes rules w && fitRow w) ≡ true → Fitting w
-  record-fitting e =
+  pub record-fitting : (fitSizes rules w && fitRow w) ≡ true → length (w .row) ≡ mostStations → Fitting w
+  record-fitting e l =
       let a = and→ (fitSizes rules w) (fitRow w) e in
       let z = sizes→ (a .0) in
-      record { some = z .0 .some; most = z .0 .most; dense = z .1; symbols = row-symbols (a .1) }
+      record { some = z .0 .some; most = z .0 .most; dense = z .1; long = l; symbols = row-symbols (a .1) }
 
 -- a necklace of a density is a necklace
 pub is-necklace : (d : ℕ) (w : List ℕ) → isNecklaceOf d w ≡ true → isNecklace w ≡ true

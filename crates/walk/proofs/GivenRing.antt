@@ -2,7 +2,6 @@
 use mathlib.Core.Bool.{Bool, false, true}
 use mathlib.Core.Path.{ap, refl, sym, _∙_, _≡_}
 use Prim.Native.Nat.{suc, zero, ℕ}
-use native.Mathlib.Omega.{arith}
 use lib.Dec.{ltb}
 use lib.ListN.{getD}
 use Rattle.density.specs.Necklaces.{isNecklaceOf}
@@ -15,13 +14,13 @@ use Rattle.walk.specs.declared.Answer.the-variants.{None, Refused, Ring}
 use Rattle.walk.specs.declared.Standing.{Standing}
 use Rattle.walk.specs.declared.Standing.the-variants.{Down, Ended, Given, Limit, Up}
 use Rattle.walk.specs.declared.Walk.{Walk}
-use Rattle.words.proofs.Booleans.{and→}
+use Rattle.words.proofs.Booleans.{and→, clash}
 
 pub none≢ring : None ≡ Ring → ⊥
-none≢ring e = let z : _≡_ {A = ℕ} 0 1 = cc in omega arith
+none≢ring e = clash (cc)
 
 refused≢ring : {r : Refusal} → Refused r ≡ Ring → ⊥
-refused≢ring e = let z : _≡_ {A = ℕ} 0 1 = cc in omega arith
+refused≢ring e = clash (cc)
 
 -- a move that answers with a ring goes to Given
 abbrev ToGiven : Move → Type 0

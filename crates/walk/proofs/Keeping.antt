@@ -1,7 +1,7 @@
 -- Each move of a good walk keeps what it stands for: the events put together.
 use mathlib.Core.Bool.{Bool, false, true}
 use mathlib.Core.List.{List, [], _++_, _∷_}
-use mathlib.Core.Path.{ap, refl, sym, _∙_, _≡_}
+use mathlib.Core.Path.{ap, refl, _∙_, _≡_}
 use Prim.Native.Nat.{suc, zero, ℕ, _*_, _+_, _-_, _<_, _≤_}
 use native.Mathlib.Nat.{le-refl}
 use native.Mathlib.Omega.{arith}
@@ -9,19 +9,19 @@ use lib.Dec.{ltb}
 use lib.ListN.{getD, length, set, take}
 use lib.Seq.{length-take-le, take-suc-set}
 use borrow.Author.Tests.{ltb-false, ltb-true}
+use Rattle.density.proofs.Begun.{begins-member, member-begins}
 use Rattle.density.proofs.Binary.{empty, one∷, zero∷}
+use Rattle.density.proofs.Branching.{other-way}
 use Rattle.density.proofs.Members.{Member, member-test, test-member, →begins}
-use Rattle.density.specs.Necklaces.{begins, isNecklaceOf, ofKind}
-use Rattle.prefix.proofs.Begun.{begins-member, member-begins}
+use Rattle.density.specs.Necklaces.{begins, isNecklaceOf}
+use Rattle.listing.proofs.Strikes.{strike-kept, strike-out, strike-raise}
+use Rattle.listing.specs.Listing.{raise, strike}
 use Rattle.walk.proofs.Below.{below-lines, below-rows, last-lines, last-rows, none-lines}
 use Rattle.walk.proofs.Events.{down-free, down-no-lines, down-no-rows, down-yes-lines, down-yes-rows, fixed, found-lines, found-rows, limit-no-lines, limit-no-rows, limit-yes-lines, up-lines, up-no-rows, up-yes-rows}
-use Rattle.walk.proofs.Good.{Fit, down-fit, ended-fit, given-fit, sound-fit, sound-set, symbol, up-fit}
-use Rattle.walk.proofs.Rounds.{other-way}
+use Rattle.walk.proofs.Good.{Fit, down-fit, ended-fit, given-fit, sound-at, sound-fit, sound-set, symbol, up-fit}
 use Rattle.walk.proofs.Runs.{Keeps, keeps-answer, keeps-free, keeps-trial, said-row}
-use Rattle.walk.proofs.Strikes.{strike-kept, strike-out, strike-raise}
 use Rattle.walk.specs.Course.{Good, GoodAt, Sound, movesAt, size, sizeAt}
 use Rattle.walk.specs.Fit.{fitAt}
-use Rattle.walk.specs.Listing.{Listing, entry, raise, strike}
 use Rattle.walk.specs.Moves.{Move, Rules, answer, downMove, downTried, ended, foundMove, free, goneBelow, limitMove, moveAt, moved, rowOf, trial, upMove, upTried}
 use Rattle.walk.specs.ToCome.{linesAt, rowsAt, stands}
 use Rattle.walk.specs.declared.Answer.the-variants.{None}
@@ -56,7 +56,7 @@ module _ (R : Rules) where
   Kept w m = Keeps R (Good R) (Fit R) (stands R) size w m
 
   -- the walk w, which stands at s
-  module _ (w : Walk) (s : Standing) (at : w .at ≡ s) (sound : Sound R (w .n) (w .d) (w .kind) (w .row)) where
+  module _ (w : Walk) (s : Standing) (at : w .at ≡ s) (sound : Sound R w) where
     stands-here : stands R w ≡ strike (R .ofKind (w .kind)) (linesAt s (w .n) (w .d) (w .row))
     unfolding stands
     stands-here = rw at
@@ -65,21 +65,21 @@ module _ (R : Rules) where
     unfolding size
     size-here = rw at
 
-    to-free : (s′ : Standing) (row′ : List ℕ) → Sound R (w .n) (w .d) (w .kind) row′ → GoodAt s′ (w .n) (w .d) row′
+    to-free : (s′ : Standing) (row′ : List ℕ) → Sound R (moved w row′ (w .at)) → GoodAt s′ (moved w row′ s′)
         → linesAt s (w .n) (w .d) (w .row) ≡ linesAt s′ (w .n) (w .d) row′ → sizeAt s′ (w .n) (w .d) row′ < sizeAt s (w .n) (w .d) (w .row)
         → Kept w (free (moved w row′ s′))
     unfolding stands size
-    to-free s′ row′ so g l z = keeps-free (record { sound = so; placed = g }) (stands-here ∙ ap (strike (R .ofKind (w .kind))) l) (rw size-here z)
+    to-free s′ row′ so g l z = keeps-free (record { sound = sound-at so s′; placed = g }) (stands-here ∙ ap (strike (R .ofKind (w .kind))) l) (rw size-here z)
 
-    to-trial : (s′ : Standing) (row′ : List ℕ) → fitAt R s w ≡ true → Sound R (w .n) (w .d) (w .kind) row′ → GoodAt s′ (w .n) (w .d) row′
+    to-trial : (s′ : Standing) (row′ : List ℕ) → fitAt R s w ≡ true → Sound R (moved w row′ (w .at)) → GoodAt s′ (moved w row′ s′)
         → linesAt s (w .n) (w .d) (w .row) ≡ raise 1 (linesAt s′ (w .n) (w .d) row′) → sizeAt s′ (w .n) (w .d) row′ < sizeAt s (w .n) (w .d) (w .row)
         → Kept w (trial (moved w row′ s′))
     unfolding stands size
     to-trial s′ row′ f so g l z =
-        keeps-trial (record { sound = so; placed = g }) (sound-fit sound (ap (λ t. fitAt R t w) at ∙ f))
+        keeps-trial (record { sound = sound-at so s′; placed = g }) (sound-fit sound (ap (λ t. fitAt R t w) at ∙ f))
         (stands-here ∙ ap (strike (R .ofKind (w .kind))) l ∙ strike-raise (R .ofKind (w .kind)) 1 (linesAt s′ (w .n) (w .d) row′)) (rw size-here z)
 
-  module _ (w : Walk) (sound : Sound R (w .n) (w .d) (w .kind) (w .row)) where
+  module _ (w : Walk) (sound : Sound R w) where
     long : w .n ≤ length (w .row)
     long = omega (arith, sound .most, sound .long)
 
@@ -144,17 +144,17 @@ module _ (R : Rules) where
       at-found : (b : Bool) → R .ofKind (w .kind) (rowOf w) ≡ b → Kept w (foundMove b w)
       unfolding stands size
       at-found true e =
-          keeps-answer (sound-fit sound (given-fit R (moved w (w .row) Given) (member-test i) e))
+          keeps-answer (sound-fit (sound-at sound Given) (given-fit R (moved w (w .row) Given) (member-test i) e))
+          (said-row (rowOf w) (omega (arith, sound .some, i .long)))
           (stands-here w (Up (suc (w .n))) at sound ∙ ap (strike (R .ofKind (w .kind))) (found-lines (w .n) (w .d) (w .row) long i)
-          ∙ strike-kept (R .ofKind (w .kind)) (rowOf w) (linesAt Given (w .n) (w .d) (w .row)) e
-          ∙ ap {B = Listing} (λ s. entry s 0 (strike (R .ofKind (w .kind)) (linesAt Given (w .n) (w .d) (w .row)))) (sym (said-row (rowOf w) (omega (arith, sound .some, i .long)))))
+          ∙ strike-kept (R .ofKind (w .kind)) (rowOf w) (linesAt Given (w .n) (w .d) (w .row)) e)
       at-found false e =
-          keeps-free (record { sound = sound; placed = member-test i })
+          keeps-free (record { sound = sound-at sound Given; placed = member-test i })
           (stands-here w (Up (suc (w .n))) at sound ∙ ap (strike (R .ofKind (w .kind))) (found-lines (w .n) (w .d) (w .row) long i)
           ∙ strike-out (R .ofKind (w .kind)) (rowOf w) (linesAt Given (w .n) (w .d) (w .row)) e)
           (rw (size-here w (Up (suc (w .n))) at sound) (found-size (w .n) (w .d) (w .row) long i))
 
-    at-up : (i : ℕ) → w .at ≡ Up (suc i) → GoodAt (Up (suc i)) (w .n) (w .d) (w .row) → (b : Bool) → ltb i (w .n) ≡ b → Kept w (upMove R b i w)
+    at-up : (i : ℕ) → w .at ≡ Up (suc i) → GoodAt (Up (suc i)) w → (b : Bool) → ltb i (w .n) ≡ b → Kept w (upMove R b i w)
     at-up i at g true e = up-asked i at (g .0) (g .2) (ltb-true i (w .n) e) (begins (w .n) (w .d) (take i (w .row) ++ (1 ∷ []))) refl
     at-up i at g false e =
         let m : i ≡ w .n = omega (arith, ltb-false i (w .n) e, g .1) in
@@ -178,10 +178,10 @@ module _ (R : Rules) where
     at-none : w .at ≡ Down 0 → Kept w (answer None (ended w))
     unfolding stands strike linesAt
     at-none at =
-        keeps-answer (ended-fit w sound)
+        keeps-answer (ended-fit w sound) refl
         (stands-here w (Down 0) at sound ∙ ap (strike (R .ofKind (w .kind))) (none-lines (w .n) (w .d) (w .row)))
 
-    at-standing : (s : Standing) → w .at ≡ s → GoodAt s (w .n) (w .d) (w .row) → Kept w (moveAt R s w)
+    at-standing : (s : Standing) → w .at ≡ s → GoodAt s w → Kept w (moveAt R s w)
     unfolding moveAt
     at-standing Limit at g = at-limit at (isNecklaceOf (w .d) (rowOf w)) refl
     at-standing (Down zero) at g = at-none at

@@ -7,17 +7,17 @@ use native.Mathlib.Omega.{arith}
 use lib.ListN.{drop, getD, length, set, take, take-append-drop}
 use lib.Seq.{length-take-le}
 use borrow.Author.Tests.{le-ltb, lt-ltb}
-use Rattle.density.proofs.Binary.{Binary, binary-append, binary-at}
+use Rattle.density.proofs.Begun.{begins-member}
+use Rattle.density.proofs.Binary.{Binary, binary-append, binary-within, test-binary}
 use Rattle.density.proofs.Members.{Member}
 use Rattle.density.specs.Necklaces.{begins, isNecklaceOf, ofKind}
-use Rattle.prefix.proofs.Begun.{begins-member}
-use Rattle.prefix.specs.Search.{Symbols}
-use Rattle.walk.proofs.FitSteps.{clean-binary}
 use Rattle.walk.specs.Course.{Good}
 use Rattle.walk.specs.Moves.{answer, downTried, ended, foundMove, free, goneBelow, limitMove, moveAt, moved, rowOf, rules, trial, upTried}
-use Rattle.walk.specs.declared.Answer.the-variants.{None, Ring}
+use Rattle.walk.specs.declared.Answer.the-variants.{None}
 use Rattle.walk.specs.declared.Standing.the-variants.{Down, Given, Limit, Up}
 use Rattle.walk.specs.declared.Walk.{Walk}
+use Rattle.words.specs.Symbols.{Within}
+use Rattle.refusal.specs.Verdicts.{mostStations}
 
 -- the symbol that a trial on the way up leaves
 abbrev pub bit : Bool → ℕ
@@ -106,12 +106,12 @@ from-none w e = rw e
 -- ---- good records
 
 module _ {w : Walk} (g : Good rules w) where
-  pub good-long : length (w .row) ≡ 64
+  pub good-long : length (w .row) ≡ mostStations
   good-long = g .sound .long
 
-  pub good-symbols : Symbols (w .row)
+  pub good-symbols : Within 2 (w .row)
   good-symbols =
-      binary-at (subst Binary (take-append-drop (w .n) (w .row)) (binary-append (g .sound .binary) (clean-binary (drop (w .n) (w .row)) (g .sound .clean))))
+      binary-within (subst Binary (take-append-drop (w .n) (w .row)) (binary-append (g .sound .binary) (test-binary 0 (drop (w .n) (w .row)) (omega arith) (g .sound .clean))))
 
   pub good-down : (p : ℕ) → w .at ≡ Down p → p ≤ w .n
   good-down p e = rw e at (g .placed)

@@ -2,19 +2,20 @@
 use mathlib.Core.Path.{ap, refl, sym, _∙_, _≡_}
 use Prim.Native.Nat.{suc, zero, ℕ, _<_}
 use native.Mathlib.Omega.{arith}
+use Rattle.listing.proofs.RingsNamed.{refused≢line}
+use Rattle.listing.proofs.Strikes.{Closed, last, line}
+use Rattle.listing.specs.Listing.{Listing, raise}
+use Rattle.listing.specs.Totals.{owed}
 use Rattle.refusal.specs.declared.Refusal.the-variants.{Spent}
 use Rattle.walk.proofs.Enough.{enough-some, moves-enough}
 use Rattle.walk.proofs.Good.{Fit}
 use Rattle.walk.proofs.Keeping.{keeping}
 use Rattle.walk.proofs.Runs.{Keeps, keeps-answer, keeps-free, keeps-trial, saidAs}
 use Rattle.walk.proofs.Steps.{stands-closed}
-use Rattle.walk.proofs.Strikes.{Closed, last, line}
 use Rattle.walk.specs.Course.{Good, size}
-use Rattle.walk.specs.Listing.{Listing, Said, entry, raise, refused}
-use Rattle.walk.specs.Moves.{Move, Rules, answer, moveAt, trial}
+use Rattle.walk.specs.Moves.{Move, Rules, moveAt, trial}
 use Rattle.walk.specs.Step.{after, enough, neededBy, neededIn, run, trialsNeeded}
 use Rattle.walk.specs.ToCome.{stands}
-use Rattle.walk.specs.Totals.{owed}
 use Rattle.walk.specs.declared.Answer.the-variants.{Refused}
 use Rattle.walk.specs.declared.Standing.the-variants.{Ended}
 use Rattle.walk.specs.declared.Walk.{Walk}
@@ -22,11 +23,6 @@ use Rattle.walk.specs.declared.Walk.{Walk}
 owed-raised : {l : Listing} → Closed l → owed (raise 1 l) ≡ suc (owed l)
 owed-raised last = omega arith
 owed-raised (line c) = omega arith
-
--- the first of rings and then none is no refusal
-pub first-said : {l : Listing} {s : Said} {o : ℕ} {rest : Listing} {c : ℕ} → Closed l → l ≡ entry s o rest → s ≡ refused c → ⊥
-first-said last e f = let z : _≡_ {A = ℕ} 0 1 = cc in omega arith
-first-said (line h) e f = let z : _≡_ {A = ℕ} 0 1 = cc in omega arith
 
 module _ (R : Rules) where
   abbrev Kept : Walk → Move → Type 0
@@ -43,7 +39,7 @@ module _ (R : Rules) where
       go : {m : Move} → Kept w m → NeededOf f → neededBy m (neededIn R f) ≡ owed (stands R w)
       go (keeps-free {v = v} gv q l) ih = ih v (omega arith) gv ∙ ap owed (sym q)
       go (keeps-trial {v = v} gv fw q l) ih = ap suc (ih v (omega arith) gv) ∙ sym (ap owed q ∙ owed-raised (stands-closed R v gv))
-      go (keeps-answer fv q) ih = sym (ap owed q)
+      go (keeps-answer fv p q) ih = sym (ap owed q)
 
   pub needed-owed : (w : Walk) → Good R w → trialsNeeded R w ≡ owed (stands R w)
   unfolding trialsNeeded
@@ -75,4 +71,4 @@ module _ (R : Rules) where
       go k q (keeps-free {v = v} gv p l) ih e = ih k t v (omega arith) gv e
       go zero q (keeps-trial {v = v} gv fw p l) ih e = (v, q)
       go (suc k) q (keeps-trial {v = v} gv fw p l) ih e = ih k (suc t) v (omega arith) gv e
-      go k q (keeps-answer {v = v} fv p) ih e = absurd (first-said (stands-closed R w g) p (ap (λ a. saidAs a v) e))
+      go k q (keeps-answer {v = v} fv p r) ih e = absurd (refused≢line (sym (ap (λ a. saidAs a v) e) ∙ p))

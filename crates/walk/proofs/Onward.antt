@@ -32,7 +32,7 @@ module _ (R : Rules) where
   same-after k t f w (keeps-free {v = v} g q l) h = run-same R (Good R) (Fit R) (stands R) size (keeping R) f (enough (v .n)) k t v (omega arith) (moves-enough g) g
   same-after zero t f w (keeps-trial g e q l) h = refl
   same-after (suc k) t f w (keeps-trial {v = v} g e q l) h = run-same R (Good R) (Fit R) (stands R) size (keeping R) f (enough (v .n)) k (suc t) v (omega arith) (moves-enough g) g
-  same-after k t f w (keeps-answer e q) h = refl
+  same-after k t f w (keeps-answer e p q) h = refl
 
   pub onward-move : (k t : ℕ) (w : Walk) → Good R w → onward k t w ≡ after (moveAt R (w .at) w) k t w onward
   unfolding run

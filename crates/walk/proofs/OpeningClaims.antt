@@ -7,29 +7,27 @@ use Prim.Native.Nat.{suc, zero, ℕ, _*_, _-_}
 use native.Mathlib.Omega.{arith}
 use lib.ListN.{length}
 use Rattle.density.proofs.Binary.{binary-within}
+use Rattle.density.proofs.KindTests.{one-of}
+use Rattle.density.proofs.Wanted.{first-ring, next-ring, rings-falling}
 use Rattle.density.specs.Necklaces.{isKind, ofKind}
+use Rattle.listing.proofs.ListingLeft.{Remaining, ended→, left-few, left→said, named-wanted, none→, owed-few, remaining, ring→, said→left, spent→, to-come, →ended, →none, →paid, →ring, →spent}
+use Rattle.listing.proofs.Prices.{raise-zero}
+use Rattle.listing.proofs.Strikes.{Closed, listing-closed}
+use Rattle.listing.proofs.Totalled.{listing-totals, starts-alike}
+use Rattle.listing.proofs.TrialBounds.{kind-1-prices, prices, starts-few}
+use Rattle.listing.specs.Listing.{Listing, book, listingAnswers, listingStep, over}
+use Rattle.listing.specs.Totals.{AtMost, SaysNone, listingLeft, named, ringsOf}
 use Rattle.refusal.proofs.Conditions.{Tells, accepted-exactly, at-most-tells, chain-first, equal-tells, passed, stations-tell, test}
 use Rattle.refusal.specs.Conditions.{NoStations, NoneHolds}
 use Rattle.refusal.specs.Verdicts.{accepted}
-use Rattle.walk.proofs.Bound.{kind-1-prices, starts-few}
 use Rattle.walk.proofs.Demand.{Admitted, accepted-opening, answers-agree, fresh-fit, fresh-stands, handed-stands, stays-fit}
-use Rattle.walk.proofs.FitFacts.{one-of}
 use Rattle.walk.proofs.Good.{Fit}
-use Rattle.walk.proofs.Named.{rings-listing}
-use Rattle.walk.proofs.Next.{first-ring, next-ring, rings-falling}
-use Rattle.walk.proofs.Plenty.{prices}
-use Rattle.walk.proofs.Prices.{raise-zero}
-use Rattle.walk.proofs.Remaining.{Remaining, ended→, left-few, left→said, named-left, none→, owed-few, remaining, ring→, said→left, spent→, to-come, →ended, →none, →paid, →ring, →spent}
 use Rattle.walk.proofs.Steps.{step-agrees}
-use Rattle.walk.proofs.Strikes.{Closed, listing-closed}
-use Rattle.walk.proofs.Totalled.{listing-totals, starts-alike}
-use Rattle.walk.specs.Claims.{Demand3, EndedNext, FirstRing, Kind1Trials, NamedAll, NamedFalling, NeverSpent, NeverUnfit, NextRing, NoneNext, OpenAccepts, OpenRefusals, Opening, RingNext, SpentNext, TakenAlike, TakenListed, Trials, TrialsNext, answers, bookOf, given, next, opened, wanted}
-use Rattle.walk.specs.Listing.{Listing, book, listingAnswers, listingStep, over}
+use Rattle.walk.specs.Claims.{Demand3, EndedNext, FirstRing, Kind1Trials, NamedAll, NamedFalling, NeverSpent, NeverUnfit, NextRing, NoneNext, OpenAccepts, OpenRefusals, Opening, RingNext, SpentNext, TakenAlike, TakenListed, Trials, TrialsNext, answers, bookOf, given, next, opened, wantedOf}
 use Rattle.walk.specs.Moves.{rules}
-use Rattle.walk.specs.Opening.{NoCondition, NoKind, fresh, openAnswer, openConditions, openVerdict}
+use Rattle.walk.specs.Opening.{NoCondition, NoKind, fresh, openConditions, openVerdict, openWalk}
 use Rattle.walk.specs.Step.{handed}
 use Rattle.walk.specs.ToCome.{stands}
-use Rattle.walk.specs.Totals.{AtMost, SaysNone, listingLeft, named, ringsOf}
 use Rattle.words.proofs.Claims.{other-tells}
 
 -- ---- opening
@@ -77,7 +75,7 @@ module _ (o : Opening) where
   admitted = accepted-opening (o .n) (o .d) (o .kind) (o .limit) (o .passed)
 
   same-walk : opened o ≡ fresh rules (o .n) (o .d) (o .kind) (o .limit)
-  same-walk = ap (λ v. openAnswer v rules (o .n) (o .d) (o .kind) (o .limit) .walk) (o .passed)
+  same-walk = ap (λ v. openWalk v rules (o .n) (o .d) (o .kind) (o .limit)) (o .passed)
 
   opened-fit : Fit rules (opened o)
   opened-fit = rw same-walk (fresh-fit rules (o .n) (o .d) (o .kind) (o .limit) admitted)
@@ -108,13 +106,12 @@ module _ (o : Opening) (steps : List ℕ) where
       s .tells ∙ ap (λ l. listingStep l a .tells) (handed-stands rules (opened o) (opened-fit o) steps ∙ ap (λ l. listingLeft l steps) (opened-stands o))
 
   -- the rings given, and then those still to come, are those wanted
-  given-left : given o steps ++ ringsOf left ≡ wanted o
+  given-left : given o steps ++ ringsOf left ≡ wantedOf o
   given-left =
       ap (λ t. named t ++ ringsOf left) (demand-3 o steps)
-      ∙ named-left steps (to-come (book-closed o))
-      ∙ rings-listing (o .n) (o .d) (ofKind (o .kind)) (o .limit) (admitted o .long) (admitted o .binary)
+      ∙ named-wanted (o .n) (o .d) (ofKind (o .kind)) (o .limit) (admitted o .long) (admitted o .binary) steps
 
-  none-left : (ringsOf left ≡ []) ↔ (given o steps ≡ wanted o)
+  none-left : (ringsOf left ≡ []) ↔ (given o steps ≡ wantedOf o)
   none-left = (
     λ e. sym (append-nil (given o steps)) ∙ ap (λ t. given o steps ++ t) (sym e) ∙ given-left,
     λ e. append-cancel-left (given o steps) (ringsOf left) [] (given-left ∙ sym e ∙ sym (append-nil (given o steps))),
@@ -181,13 +178,16 @@ taken-alike o steps others = starts-alike (taken-listed o steps) (taken-listed o
 pub kind-1-trials : Kind1Trials
 kind-1-trials o steps e =
     starts-few (taken-listed o steps)
-    (subst (λ k. AtMost (2 * o .n - 1) (book (o .n) (o .d) k (o .limit))) (sym e) (kind-1-prices (o .n) (o .d) (o .limit) (subst (λ k. Admitted rules (o .n) (o .d) k (o .limit)) e (admitted o))))
+    (subst (λ k. AtMost (2 * o .n - 1) (book (o .n) (o .d) k (o .limit))) (sym e) (kind-1-prices (o .n) (o .d) (o .limit) (admitted o .stations) (admitted o .long)))
+
+book-prices : (o : Opening) → AtMost (4 * o .n - 2) (bookOf o)
+book-prices o = prices (o .n) (o .d) (o .kind) (o .limit) (admitted o .kinds) (admitted o .stations) (admitted o .long) (binary-within (admitted o .binary))
 
 pub trials : Trials
-trials o steps = starts-few (taken-listed o steps) (prices (o .n) (o .d) (o .kind) (o .limit) (admitted o))
+trials o steps = starts-few (taken-listed o steps) (book-prices o)
 
 pub never-spent : NeverSpent
 never-spent o steps a h e =
-    let few = owed-few (left-few steps (prices (o .n) (o .d) (o .kind) (o .limit) (admitted o))) in
+    let few = owed-few (left-few steps (book-prices o)) in
     let more = spent-next o steps a .0 e in
     omega arith

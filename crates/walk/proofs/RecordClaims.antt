@@ -4,17 +4,17 @@ use mathlib.Core.Logic.{inl, inr, _↔_, _⊎_}
 use mathlib.Core.Path.{ap, sym, _∙_, _≡_}
 use Prim.Native.Nat.{_<_, _≤_}
 use native.Mathlib.Omega.{arith}
+use Rattle.listing.specs.Totals.{owed}
 use Rattle.walk.proofs.AnyStep.{StepCase, ended-case, given-case, spent-case, step-case, unfit-case}
 use Rattle.walk.proofs.Good.{Fit, fit-at, fit-sound}
 use Rattle.walk.proofs.Needed.{needed-ended, needed-owed}
 use Rattle.walk.proofs.Steps.{ended-stands, fit-placed, step-agrees}
-use Rattle.walk.specs.Course.{GoodAt}
 use Rattle.walk.specs.Claims.{AnsweredExactly, EndedExactly, NeededOwed, RefusedSteps, SpentExactly, StepAsBook, TrialDue, UnfitExactly}
+use Rattle.walk.specs.Course.{GoodAt}
 use Rattle.walk.specs.Fit.{fit}
 use Rattle.walk.specs.Moves.{moveAt, rules, trial}
 use Rattle.walk.specs.Step.{stepNumbers, trialsNeeded}
 use Rattle.walk.specs.ToCome.{stands}
-use Rattle.walk.specs.Totals.{owed}
 use Rattle.walk.specs.declared.Standing.the-variants.{Ended}
 use Rattle.walk.specs.declared.Stepped.{Stepped}
 use Rattle.walk.specs.declared.Walk.{Walk}
@@ -84,6 +84,6 @@ needed-is-owed w long e = go (fit-placed rules w (w .at) (fit-at f))
     f : Fit rules w
     f = record { test = e; long = long }
 
-    go : (w .at ≡ Ended) ⊎ GoodAt (w .at) (w .n) (w .d) (w .row) → trialsNeeded rules w ≡ owed (stands rules w)
+    go : (w .at ≡ Ended) ⊎ GoodAt (w .at) w → trialsNeeded rules w ≡ owed (stands rules w)
     go (inl z) = needed-ended rules w z ∙ sym (ap owed (ended-stands rules w z))
     go (inr p) = needed-owed rules w (record { sound = fit-sound f; placed = p })

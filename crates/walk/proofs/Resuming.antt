@@ -19,8 +19,8 @@ use Rattle.walk.specs.declared.Said.{Said}
 use Rattle.walk.specs.declared.Said.the-variants.{Nothing, Says}
 use Rattle.walk.specs.declared.Standing.{Standing}
 use Rattle.walk.specs.declared.Standing.the-variants.{Ended, Given}
-use Rattle.walk.specs.declared.Stepped.{Stepped}
 use Rattle.walk.specs.declared.Walk.{Walk}
+use Rattle.words.proofs.Booleans.{clash}
 
 -- the step of w, with k trials left, comes to v with l left; both have the same sizes and kind
 pub record Comes (w : Walk) (k : ℕ) (v : Walk) (l : ℕ) : Type 0 where
@@ -81,7 +81,7 @@ module _ {w : Walk} {k : ℕ} {v : Walk} {l : ℕ} (c : Comes w k v l) where
   }
     where
       silent : r .said ≡ Nothing → ⊥
-      silent z = let y : _≡_ {A = ℕ} 0 1 = cc in omega arith
+      silent z = clash (cc)
 
   pub then-answer : (x : Answer) (r : Reached) → r .left ≡ l → r .said ≡ Says x → answer x (landed v r) ≡ moveAt rules (v .at) v → Resumes w k r
   then-answer x r e f q = says x r e f (λ a h. moving a h ∙ ap (λ m. after m l (a - l) v (onward rules)) (sym q) ∙ ap (λ u. stepped u x (a - l)) (sym (c .alike r)))
@@ -134,4 +134,4 @@ ended-resumes w k r e i l f = record {
 }
   where
     silent : r .said ≡ Nothing → ⊥
-    silent z = let y : _≡_ {A = ℕ} 0 1 = cc in omega arith
+    silent z = clash (cc)

@@ -4,8 +4,9 @@ use mathlib.Core.Path.{ap, refl, sym, _∙_, _≡_}
 use Prim.Native.Nat.{suc, zero, ℕ, _+_, _-_, _<_, _≤_}
 use native.Mathlib.Omega.{arith}
 use lib.ListN.{length}
+use Rattle.listing.proofs.Strikes.{raised}
+use Rattle.listing.specs.Listing.{Line, Listing, Said, entry, raise, ring, says, told}
 use Rattle.refusal.specs.declared.Refusal.the-variants.{Ended as HasEnded, Spent}
-use Rattle.walk.specs.Listing.{Listing, Said, entry, over, raise, ring, told}
 use Rattle.walk.specs.Moves.{Move, Rules, answer, free, moveAt, trial}
 use Rattle.walk.specs.Step.{after, answerNumbers, run, saidBy, stepped, toldBy}
 use Rattle.walk.specs.declared.Answer.{Answer}
@@ -24,23 +25,9 @@ told-as None w t = refl
 told-as (Refused r) w t = refl
 
 -- a row that is not empty is a ring
-pub said-row : (row : List ℕ) → 0 < length row → saidBy 0 row ≡ ring row
+pub said-row : (row : List ℕ) → 0 < length row → saidBy 0 row ≡ says (ring row)
 said-row [] h = absurd (omega arith)
 said-row (x ∷ row) h = refl
-
--- what the first of a listing that was raised by a trial was before
-pub record Paid (l : Listing) (s : Said) (owed : ℕ) (rest : Listing) : Type 0 where
-  pub before : ℕ
-  pub is : l ≡ entry s before rest
-  pub more : owed ≡ suc before
-
-pub raised : (l : Listing) {s : Said} {o : ℕ} {rest : Listing} → raise 1 l ≡ entry s o rest → Paid l s o rest
-raised over e = let z : _≡_ {A = ℕ} 0 1 = cc in absurd (omega arith)
-raised (entry s′ k rest′) {s} {o} {rest} e =
-    let p : s′ ≡ s = cc in
-    let q : rest′ ≡ rest = cc in
-    let h : 1 + k ≡ o = cc in
-    record { before = k; is = cc; more = omega arith }
 
 -- an ended walk: 20, no change
 pub run-ended : (R : Rules) (w : Walk) (f k t : ℕ) → 0 < f → w .at ≡ Ended → run R f k t w ≡ stepped w (Refused HasEnded) t
@@ -53,15 +40,15 @@ module _ (R : Rules) (Good Fit : Walk → Type 0) (stands : Walk → Listing) (s
   pub data Keeps (w : Walk) : Move → Type 0 where
     keeps-free : {v : Walk} → Good v → stands w ≡ stands v → size v < size w → Keeps w (free v)
     keeps-trial : {v : Walk} → Good v → Fit w → stands w ≡ raise 1 (stands v) → size v < size w → Keeps w (trial v)
-    keeps-answer : {a : Answer} {v : Walk} → Fit v → stands w ≡ entry (saidAs a v) 0 (stands v) → Keeps w (answer a v)
+    keeps-answer : {a : Answer} {v : Walk} {l : Line} → Fit v → saidAs a v ≡ says l → stands w ≡ entry l 0 (stands v) → Keeps w (answer a v)
 
   -- what k trials more make of a walk that owes o of them to s, after t
-  pub data Ran (k t : ℕ) (s : Said) (o : ℕ) (rest : Listing) (r : Stepped) : Type 0 where
+  pub data Ran (k t : ℕ) (s : Line) (o : ℕ) (rest : Listing) (r : Stepped) : Type 0 where
     spent : k < o → r .answer ≡ Refused Spent → r .trials ≡ t + k → Fit (r .walk) → stands (r .walk) ≡ entry s (o - k) rest → Ran k t s o rest r
-    given : o ≤ k → saidAs (r .answer) (r .walk) ≡ s → r .trials ≡ t + o → Fit (r .walk) → stands (r .walk) ≡ rest → Ran k t s o rest r
+    given : o ≤ k → saidAs (r .answer) (r .walk) ≡ says s → r .trials ≡ t + o → Fit (r .walk) → stands (r .walk) ≡ rest → Ran k t s o rest r
 
   -- one trial earlier
-  one-more : {k t : ℕ} {s : Said} {b o : ℕ} {rest : Listing} {r : Stepped} → o ≡ suc b → Ran k (suc t) s b rest r → Ran (suc k) t s o rest r
+  one-more : {k t : ℕ} {s : Line} {b o : ℕ} {rest : Listing} {r : Stepped} → o ≡ suc b → Ran k (suc t) s b rest r → Ran (suc k) t s o rest r
   one-more {k} {b = b} {o} {rest} e (spent l a n f g) =
       let m : o - suc k ≡ b - k = omega arith in
       spent (omega arith) a (omega arith) f (rw m g)
@@ -69,7 +56,7 @@ module _ (R : Rules) (Good Fit : Walk → Type 0) (stands : Walk → Listing) (s
 
   -- what a run of at most f moves is owed
   abbrev Listed-run : ℕ → Type 0
-  Listed-run f = (k t : ℕ) (w : Walk) (s : Said) (o : ℕ) (rest : Listing) → size w < f → Good w → stands w ≡ entry s o rest → Ran k t s o rest (run R f k t w)
+  Listed-run f = (k t : ℕ) (w : Walk) (s : Line) (o : ℕ) (rest : Listing) → size w < f → Good w → stands w ≡ entry s o rest → Ran k t s o rest (run R f k t w)
 
   pub run-as-listed : ((w : Walk) → Good w → Keeps w (moveAt R (w .at) w)) → (f : ℕ) → Listed-run f
   unfolding run
@@ -85,9 +72,10 @@ module _ (R : Rules) (Good Fit : Walk → Type 0) (stands : Walk → Listing) (s
       go (suc k) (keeps-trial {v = v} gv fw q l) ih =
           let p = raised (stands v) (sym q ∙ e) in
           one-more (p .more) (ih k (suc t) v s (p .before) rest (omega arith) gv (p .is))
-      go k (keeps-answer {a = a} {v = v} fv q) ih =
+      go k (keeps-answer {a = a} {v = v} {l = l} fv p q) ih =
           let z : 0 ≡ o = cc in
-          given (omega arith) (cc) (omega arith) fv (cc)
+          let m : l ≡ s = cc in
+          given (omega arith) (p ∙ ap says m) (omega arith) fv (cc)
 
   -- the number of moves allowed doesn't show, if it is enough
   pub run-same : ((w : Walk) → Good w → Keeps w (moveAt R (w .at) w)) → (f g k t : ℕ) (w : Walk) → size w < f → size w < g → Good w → run R f k t w ≡ run R g k t w
@@ -101,4 +89,4 @@ module _ (R : Rules) (Good Fit : Walk → Type 0) (stands : Walk → Listing) (s
       go k (keeps-free {v = v} gv q z) ih = ih k t v (omega arith) (omega arith) gv
       go zero (keeps-trial gv fw q z) ih = refl
       go (suc k) (keeps-trial {v = v} gv fw q z) ih = ih k (suc t) v (omega arith) (omega arith) gv
-      go k (keeps-answer fv q) ih = refl
+      go k (keeps-answer fv p q) ih = refl

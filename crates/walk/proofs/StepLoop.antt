@@ -2,22 +2,20 @@
 use mathlib.Core.Bool.{true, false}
 use mathlib.Core.List.{List}
 use mathlib.Core.Logic.{inl, inr, _⊎_}
-use mathlib.Core.Path.{ap, refl, subst, sym, _∙_, _≡_}
+use mathlib.Core.Path.{ap, subst, sym, _∙_, _≡_}
 use Prim.Native.Nat.{suc, zero, ℕ, _-_, _<_, _≤_}
 use native.Mathlib.Nat.{le-refl}
 use native.Mathlib.Omega.{arith}
 use lib.ListN.{length, take}
 use lib.Seq.{length-take-le}
-use Rattle.prefix.proofs.Places.{symbols-take}
 use Rattle.prefix.specs.Carried.{Knows, KnowsPrefixes}
-use Rattle.prefix.specs.Search.{Symbols}
 use Rattle.prefix.specs.declared.carried.Known.{Known}
 use Rattle.refusal.specs.declared.Refusal.the-variants.{Unfit}
 use Rattle.walk.proofs.Good.{Fit, fit-at, fit-sound}
 use Rattle.walk.proofs.MoveCases.{good-long, good-symbols}
 use Rattle.walk.proofs.Steps.{fit-placed, fit-step}
 use Rattle.walk.specs.Course.{Good, GoodAt, Ready, Resumes, before, landed, rest, resumed, size}
-use Rattle.walk.specs.Fit.{fit, fitAt}
+use Rattle.walk.specs.Fit.{fit}
 use Rattle.walk.specs.Moves.{moved, rowOf, rules}
 use Rattle.walk.specs.Step.{stepOf, stepped}
 use Rattle.walk.specs.declared.Answer.{Answer}
@@ -27,6 +25,10 @@ use Rattle.walk.specs.declared.Said.the-variants.{Nothing, Says}
 use Rattle.walk.specs.declared.Standing.{Standing}
 use Rattle.walk.specs.declared.Standing.the-variants.{Down, Ended, Given, Limit, Up}
 use Rattle.walk.specs.declared.Walk.{Walk}
+use Rattle.words.proofs.Alphabet.{within-take}
+use Rattle.words.specs.Symbols.{Within}
+use Rattle.refusal.specs.Verdicts.{mostStations}
+use Rattle.words.proofs.Booleans.{clash}
 
 pub unfit-step : (allowance : ℕ) (w : Walk) → fit rules w ≡ false → stepped w (Refused Unfit) 0 ≡ stepOf rules w allowance
 unfolding stepOf
@@ -43,20 +45,20 @@ pub record Going (first : Walk) (allowance : ℕ) (prefixes row : List ℕ) (at 
 -- ---- the loop begins
 
 -- a fit record stands within its row
-within-row : (w : Walk) (s : Standing) → (s ≡ Ended) ⊎ GoodAt s (w .n) (w .d) (w .row) → before s (w .n) ≤ w .n
+within-row : (w : Walk) (s : Standing) → (s ≡ Ended) ⊎ GoodAt s w → before s (w .n) ≤ w .n
 within-row w Limit h = le-refl (w .n)
-within-row w (Down p) (inl e) = let z : _≡_ {A = ℕ} 0 1 = cc in absurd (omega arith)
+within-row w (Down p) (inl e) = clash (cc)
 within-row w (Down p) (inr h) = omega (arith, h)
 within-row w (Up p) h = up p h
   where
-    up : (p : ℕ) → (Up p ≡ Ended) ⊎ GoodAt (Up p) (w .n) (w .d) (w .row) → p - 1 ≤ w .n
-    up p (inl e) = let z : _≡_ {A = ℕ} 0 1 = cc in absurd (omega arith)
+    up : (p : ℕ) → (Up p ≡ Ended) ⊎ GoodAt (Up p) w → p - 1 ≤ w .n
+    up p (inl e) = clash (cc)
     up zero (inr h) = absurd h
     up (suc i) (inr h) = omega (arith, h .1)
 within-row w Given h = le-refl (w .n)
 within-row w Ended h = omega arith
 
-module _ (allowance : ℕ) (w : Walk) (e : fit rules w ≡ true) (l : length (w .row) ≡ 64) where
+module _ (allowance : ℕ) (w : Walk) (e : fit rules w ≡ true) (l : length (w .row) ≡ mostStations) where
   fitting : Fit rules w
   fitting = record { test = e; long = l }
 
@@ -92,14 +94,14 @@ module _ {first : Walk} {allowance : ℕ} {prefixes row : List ℕ} {at : Standi
     pub turn-length : length (take (first .n) (r .row)) ≡ first .n
     turn-length = length-take-le (first .n) (r .row) inside
 
-    pub turn-inside : first .n ≤ 64
+    pub turn-inside : first .n ≤ mostStations
     turn-inside = good .sound .most
 
-    pub turn-long : length (r .row) ≡ 64
+    pub turn-long : length (r .row) ≡ mostStations
     turn-long = good-long good
 
-    pub turn-symbols : Symbols (take (first .n) (r .row))
-    turn-symbols = symbols-take (first .n) (r .row) (good-symbols good)
+    pub turn-symbols : Within 2 (take (first .n) (r .row))
+    turn-symbols = within-take (first .n) (r .row) (good-symbols good)
 
     pub turn-again : (prefixes′ : List ℕ) (known′ : Known) → KnowsPrefixes (take (first .n) (r .row)) prefixes′ → Knows (take (first .n) (r .row)) known′ → Going first allowance prefixes′ (r .row) (r .at) (r .left) known′
     turn-again prefixes′ known′ t k = record {

@@ -1,29 +1,27 @@
 -- One step of a fit walk is the book's step on what it stands for.
 use mathlib.Core.Bool.{and-eq-true-iff, false, true, _&&_}
-use mathlib.Core.List.{List, List·Memᴰ·not-nil, [], _++_, _∷_}
+use mathlib.Core.List.{List, [], _∷_}
 use mathlib.Core.Logic.{inl, inr, _⊎_}
 use mathlib.Core.Path.{ap, refl, _∙_, _≡_}
-use Prim.Native.Nat.{suc, zero, ℕ, _+_, _-_, _<_}
+use Prim.Native.Nat.{suc, zero, ℕ, _-_}
 use native.Mathlib.Nat.{zero-add}
 use native.Mathlib.Omega.{arith}
 use lib.Dec.{leb}
-use lib.ListN.{length, length-append, take}
+use lib.ListN.{take}
 use lib.Seq.{length-take-le}
 use borrow.Author.Tests.{le-ltb, leb-true, lt-ltb}
-use Rattle.density.proofs.Binary.{binary-behind}
-use Rattle.density.proofs.Members.{Begun, Member, begins→, →member}
-use Rattle.density.specs.Necklaces.{begins, isNecklaceOf, necklaces, ofKind}
+use Rattle.density.proofs.Branching.{up-some}
+use Rattle.density.specs.Necklaces.{begins, isNecklaceOf}
+use Rattle.listing.proofs.Strikes.{Closed, all-closed, coming, line, lines-closed, strike-closed}
+use Rattle.listing.specs.Listing.{Line, Listing, Said, entry, listingStep, over, strike, told}
 use Rattle.refusal.specs.declared.Refusal.the-variants.{Ended as HasEnded}
 use Rattle.walk.proofs.Enough.{enough-some, moves-enough}
 use Rattle.walk.proofs.Good.{Fit, fit-at, fit-sound}
 use Rattle.walk.proofs.Keeping.{keeping}
-use Rattle.walk.proofs.Rounds.{under-ones}
 use Rattle.walk.proofs.Runs.{Ran, given, run-as-listed, run-ended, saidAs, spent, told-as}
-use Rattle.walk.proofs.Strikes.{Closed, all-closed, coming, line, lines-closed, strike-closed}
 use Rattle.walk.specs.Course.{Good, GoodAt, Sound, size}
 use Rattle.walk.specs.Fit.{fitAt}
-use Rattle.walk.specs.Listing.{Listing, Said, entry, listingStep, necklacesUpTo, over, strike, told}
-use Rattle.walk.specs.Moves.{Rules, answer, moveAt, rowOf}
+use Rattle.walk.specs.Moves.{Rules, rowOf}
 use Rattle.walk.specs.Step.{enough, run, stepNumbers, stepOf, stepped, toldBy}
 use Rattle.walk.specs.ToCome.{firstAt, linesAt, rowsAt, stands}
 use Rattle.walk.specs.declared.Answer.the-variants.{Refused}
@@ -31,23 +29,6 @@ use Rattle.walk.specs.declared.Standing.{Standing}
 use Rattle.walk.specs.declared.Standing.the-variants.{Down, Ended, Given, Limit, Up}
 use Rattle.walk.specs.declared.Stepped.{Stepped}
 use Rattle.walk.specs.declared.Walk.{Walk}
-use Rattle.words.proofs.Beside.{le-starts}
-use Rattle.words.proofs.Lists.{→keep}
-use Rattle.words.specs.Order.{le}
-use Rattle.words.specs.Symbols.{ones}
-
-up-some : (n d : ℕ) (u : List ℕ) (k : ℕ) → length u + k ≡ n → begins n d u ≡ true → necklacesUpTo n d (u ++ ones k) ≡ [] → ⊥
-unfolding necklacesUpTo
-up-some n d u k l e nil = List·Memᴰ·not-nil (rw nil at (→keep (λ r. le r (u ++ ones k)) (u ++ s .rest) (necklaces n d) (→member (s .member)) low))
-  where
-    s : Begun n d u
-    s = begins→ n d u e
-
-    i : Member n d (u ++ s .rest)
-    i = s .member
-
-    low : le (u ++ s .rest) (u ++ ones k) ≡ true
-    low = le-starts u (s .rest) (ones k) ∙ under-ones k (binary-behind u (i .binary)) (omega (arith, i .long, length-append u (s .rest)))
 
 first-closed : (k : ℕ) (l : List (List ℕ)) → (l ≡ [] → ⊥) → Closed (firstAt k l)
 first-closed k [] h = absurd (h refl)
@@ -58,10 +39,10 @@ pub stands-closed : (R : Rules) (w : Walk) → Good R w → Closed (stands R w)
 unfolding stands linesAt rowsAt
 stands-closed R w g = strike-closed (R .ofKind (w .kind)) (go (w .at) (g .placed))
   where
-    s : Sound R (w .n) (w .d) (w .kind) (w .row)
+    s : Sound R w
     s = g .sound
 
-    go : (s : Standing) → GoodAt s (w .n) (w .d) (w .row) → Closed (linesAt s (w .n) (w .d) (w .row))
+    go : (s : Standing) → GoodAt s w → Closed (linesAt s (w .n) (w .d) (w .row))
     go Limit h = all-closed (w .n) (w .d) (rowOf w)
     go (Down p) h = lines-closed false _ _
     go (Up zero) h = absurd h
@@ -71,7 +52,7 @@ stands-closed R w g = strike-closed (R .ofKind (w .kind)) (go (w .at) (g .placed
 
 -- ---- a fit walk has ended, or is good
 
-pub fit-placed : (R : Rules) (w : Walk) (s : Standing) → fitAt R s w ≡ true → (s ≡ Ended) ⊎ GoodAt s (w .n) (w .d) (w .row)
+pub fit-placed : (R : Rules) (w : Walk) (s : Standing) → fitAt R s w ≡ true → (s ≡ Ended) ⊎ GoodAt s w
 unfolding fitAt
 fit-placed R w Limit e = inr tt
 fit-placed R w (Down p) e = inr (leb-true p (w .n) (and-eq-true-iff (leb 1 p) (leb p (w .n)) .0 e .1))
@@ -99,7 +80,7 @@ module _ (R : Rules) (w : Walk) (a : ℕ) where
   told-same : {s s′ : Said} {t t′ : ℕ} → s ≡ s′ → t ≡ t′ → told s t ≡ told s′ t′
   told-same p q = cc
 
-  as-listed : {s : Said} {o : ℕ} {rest : Listing} (r : Stepped) → stands R w ≡ entry s o rest → Ran R (Good R) (Fit R) (stands R) size a 0 s o rest r → Agrees R w a r
+  as-listed : {s : Line} {o : ℕ} {rest : Listing} (r : Stepped) → stands R w ≡ entry s o rest → Ran R (Good R) (Fit R) (stands R) size a 0 s o rest r → Agrees R w a r
   unfolding listingStep
   as-listed {s} {o} r e (spent l p q f g) = record {
     tells = rw (e, lt-ltb a o l) (told-as (r .answer) (r .walk) (r .trials) ∙ told-same (ap (λ t. saidAs t (r .walk)) p) (q ∙ zero-add a));
@@ -128,14 +109,14 @@ module _ (R : Rules) (w : Walk) (a : ℕ) where
   ended-step f e = fit-step f ∙ run-ended R w (enough (w .n)) a 0 (enough-some (w .n)) e
 
   -- any other: the first of what is to come, or spent
-  pub good-step : Fit R w → Good R w → {s : Said} {o : ℕ} {rest : Listing} → stands R w ≡ entry s o rest → Ran R (Good R) (Fit R) (stands R) size a 0 s o rest (stepOf R w a)
+  pub good-step : Fit R w → Good R w → {s : Line} {o : ℕ} {rest : Listing} → stands R w ≡ entry s o rest → Ran R (Good R) (Fit R) (stands R) size a 0 s o rest (stepOf R w a)
   good-step f g {s} {o} {rest} e =
       rw (fit-step f) (run-as-listed R (Good R) (Fit R) (stands R) size (keeping R) (enough (w .n)) a 0 w s o rest (moves-enough g) g e)
 
   pub step-agrees : Fit R w → Agrees R w a (stepOf R w a)
   step-agrees f = go (fit-placed R w (w .at) (fit-at f))
     where
-      go : (w .at ≡ Ended) ⊎ GoodAt (w .at) (w .n) (w .d) (w .row) → Agrees R w a (stepOf R w a)
+      go : (w .at ≡ Ended) ⊎ GoodAt (w .at) w → Agrees R w a (stepOf R w a)
       go (inl e) = rw (ended-step f e) (ended-agrees f e)
       go (inr p) =
           let g : Good R w = record { sound = fit-sound f; placed = p } in

@@ -1,25 +1,24 @@
--- What document 01 claims of a walk and its book, each claim as a statement of its own. proofs/Claims.antt has a proof of each.
-use mathlib.Core.Bool.{Bool, false, true, _&&_}
-use mathlib.Core.List.{List, List·Memᴰ, _++_, _∷_}
+-- What document 01 claims of a walk, each claim as a statement of its own.
+use mathlib.Core.Bool.{false, true, _&&_}
+use mathlib.Core.List.{List, _++_, _∷_}
 use mathlib.Core.Logic.{_↔_, _⊎_}
 use mathlib.Core.Path.{_≡_}
-use Prim.Native.Nat.{ℕ, _*_, _+_, _-_, _<_, _≤_}
+use Prim.Native.Nat.{ℕ, _*_, _-_, _<_, _≤_}
 use lib.ListN.{length}
-use Rattle.density.specs.Necklaces.{isNecklaceOf, necklaces, ofKind}
+use Rattle.density.specs.Necklaces.{necklaces, ofKind, wanted}
 use Rattle.refusal.specs.Conditions.{FirstOf}
 use Rattle.refusal.specs.Verdicts.{accepted, mostStations}
 use Rattle.walk.specs.Fit.{FitRecord, fit}
-use Rattle.walk.specs.Listing.{Listing, Told, allLines, book, counted, entry, linesBelow, listingAnswers, listingStep, none, over, price, refused, ring}
+use Rattle.listing.specs.Listing.{Listing, Told, book, listingAnswers, listingStep, none, refused, ring, says}
 use Rattle.walk.specs.Moves.{moveAt, rules, trial}
-use Rattle.walk.specs.Opening.{NoCondition, openAnswer, openConditions, openVerdict}
+use Rattle.walk.specs.Opening.{NoCondition, openConditions, openVerdict, openWalk}
 use Rattle.walk.specs.Step.{handed, stepDue, stepOf, toldBy, trialsNeeded, walkAnswers}
 use Rattle.walk.specs.ToCome.{stands}
-use Rattle.walk.specs.Totals.{AtMost, SaysNone, Starts, listingLeft, named, owed, totals}
+use Rattle.listing.specs.Totals.{AtMost, SaysNone, Starts, listingLeft, named, owed, totals}
 use Rattle.walk.specs.declared.Standing.the-variants.{Ended}
 use Rattle.walk.specs.declared.Walk.{Walk}
 use Rattle.words.specs.Falling.{Falling, Highest}
 use Rattle.words.specs.Order.{le, lt}
-use Rattle.words.specs.Tests.{keep}
 
 -- ---- opening
 
@@ -83,31 +82,6 @@ StepAsBook =
 abbrev pub NeededOwed : Type 0
 NeededOwed = (w : Walk) → Record w → fit rules w ≡ true → trialsNeeded rules w ≡ owed (stands rules w)
 
--- ---- the book
-
--- "If the limit is a kind 1 row of the drawer, it is the first line, at price 0."
-abbrev pub LimitLine : Type 0
-LimitLine =
-    (n d : ℕ) (limit : List ℕ)
-    → (isNecklaceOf d limit ≡ true → allLines n d limit ≡ entry (ring limit) 0 (linesBelow true n d limit))
-    × (isNecklaceOf d limit ≡ false → allLines n d limit ≡ linesBelow false n d limit)
-
--- "Each further line is the drawer's highest kind 1 row below x, where x is the line before it, or the limit while there is none."
-abbrev pub NextLine : Type 0
-NextLine =
-    (isLine : Bool) (n d : ℕ) (x r : List ℕ)
-    → (linesBelow isLine n d x ≡ entry (ring r) (price isLine x r) (linesBelow true n d r)) ↔ Highest (λ v. lt v x) (necklaces n d) r
-
--- "When no such row is left, none follows, at the price of all holes of x."
-abbrev pub LastLine : Type 0
-LastLine =
-    (isLine : Bool) (n d : ℕ) (x : List ℕ)
-    → (linesBelow isLine n d x ≡ entry none (counted isLine x) over) ↔ ((v : List ℕ) → List·Memᴰ v (necklaces n d) → lt v x ≡ false)
-
--- "If it first differs from x at place p, its price is the holes of x at places p to n, plus n - p."
-abbrev pub Price : Type 0
-Price = (isLine : Bool) (u x r : List ℕ) (a b : ℕ) → (a ≡ b → ⊥) → price isLine (u ++ (a ∷ x)) (u ++ (b ∷ r)) ≡ counted isLine (a ∷ x) + length r
-
 -- ---- after an opening
 
 -- an opening that is accepted
@@ -120,7 +94,7 @@ pub record Opening : Type 0 where
 
 -- "the walk that the opening returned"
 abbrev pub opened : Opening → Walk
-opened o = openAnswer (openVerdict (o .n) (o .d) (o .kind) (o .limit)) rules (o .n) (o .d) (o .kind) (o .limit) .walk
+opened o = openWalk (openVerdict (o .n) (o .d) (o .kind) (o .limit)) rules (o .n) (o .d) (o .kind) (o .limit)
 
 -- the drawer's book for it
 abbrev pub bookOf : Opening → Listing
@@ -155,8 +129,8 @@ NextRing =
     → Highest (λ v. lt v r && ofKind (o .kind) v) (necklaces (o .n) (o .d)) s
 
 -- all that may be given: the rings of the drawer and kind at or below the limit, falling
-abbrev pub wanted : Opening → List (List ℕ)
-wanted o = keep (λ v. le v (o .limit) && ofKind (o .kind) v) (necklaces (o .n) (o .d))
+abbrev pub wantedOf : Opening → List (List ℕ)
+wantedOf o = wanted (o .n) (o .d) (ofKind (o .kind)) (o .limit)
 
 -- no ring is given twice, and they fall
 abbrev pub NamedFalling : Type 0
@@ -164,7 +138,7 @@ NamedFalling = (o : Opening) (steps : List ℕ) → Falling (given o steps)
 
 -- a list of steps that reaches none has named each ring
 abbrev pub NamedAll : Type 0
-NamedAll = (o : Opening) (steps : List ℕ) → SaysNone (answers o steps) → given o steps ≡ wanted o
+NamedAll = (o : Opening) (steps : List ℕ) → SaysNone (answers o steps) → given o steps ≡ wantedOf o
 
 -- what a step with this allowance says after these, with its trials; and the trials that the book then owes
 abbrev pub next : Opening → List ℕ → ℕ → Told
@@ -177,13 +151,13 @@ owes o steps = owed (listingLeft (bookOf o) steps)
 abbrev pub RingNext : Type 0
 RingNext =
     (o : Opening) (steps : List ℕ) (a : ℕ) (r : List ℕ)
-    → (next o steps a .said ≡ ring r) ↔ (((more : List (List ℕ)) × (given o steps ++ (r ∷ more) ≡ wanted o)) × (owes o steps ≤ a))
+    → (next o steps a .said ≡ says (ring r)) ↔ (((more : List (List ℕ)) × (given o steps ++ (r ∷ more) ≡ wantedOf o)) × (owes o steps ≤ a))
 
 -- none exactly when no ring is left, it was not said before, and no more trials are owed than allowed
 abbrev pub NoneNext : Type 0
 NoneNext =
     (o : Opening) (steps : List ℕ) (a : ℕ)
-    → (next o steps a .said ≡ none) ↔ ((given o steps ≡ wanted o) × (SaysNone (answers o steps) → ⊥) × (owes o steps ≤ a))
+    → (next o steps a .said ≡ says none) ↔ ((given o steps ≡ wantedOf o) × (SaysNone (answers o steps) → ⊥) × (owes o steps ≤ a))
 
 -- "None: answered one time": 20 exactly after it
 abbrev pub EndedNext : Type 0

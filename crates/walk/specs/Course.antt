@@ -7,10 +7,9 @@ use Prim.Native.Nat.{ℕ, suc, zero, _*_, _+_, _-_, _<_, _≤_}
 use lib.ListN.{drop, length, take}
 use Rattle.density.proofs.Binary.{Binary}
 use Rattle.density.specs.Necklaces.{begins, isNecklaceOf}
-use Rattle.prefix.specs.Search.{Symbols}
+use Rattle.words.specs.Symbols.{Within, allUpTo}
 use Rattle.refusal.specs.Verdicts.{mostStations}
-use Rattle.walk.specs.Fit.{allUpTo}
-use Rattle.walk.specs.Moves.{Rules, moved, rules}
+use Rattle.walk.specs.Moves.{Rules, moved, rowOf, rules}
 use Rattle.walk.specs.Step.{enough, run, stepped}
 use Rattle.walk.specs.ToCome.{rowsAt}
 use Rattle.walk.specs.declared.Reached.{Reached}
@@ -23,34 +22,36 @@ use Rattle.walk.specs.declared.Walk.{Walk}
 
 -- ---- records on the way
 
-pub record Sound (R : Rules) (n d kind : ℕ) (row : List ℕ) : Type 0 where
-  pub some : 1 ≤ n
-  pub most : n ≤ R .most
-  pub dense : d ≤ n
-  pub kinds : R .known kind ≡ true
-  pub long : length row ≡ R .most
-  pub binary : Binary (take n row)
-  pub clean : allUpTo 0 (drop n row) ≡ true
+-- sizes in range, a whole row of zeros and ones, and zeros behind it
+pub record Sound (R : Rules) (w : Walk) : Type 0 where
+  pub some : 1 ≤ w .n
+  pub most : w .n ≤ R .most
+  pub dense : w .d ≤ w .n
+  pub kinds : R .known (w .kind) ≡ true
+  pub long : length (w .row) ≡ R .most
+  pub binary : Binary (rowOf w)
+  pub clean : allUpTo 0 (drop (w .n) (w .row)) ≡ true
 
 -- Down 0 and Up (n + 1) too, and Given with a ring of another kind
-abbrev pub GoodAt : Standing → ℕ → ℕ → List ℕ → Type 0
-GoodAt Limit n d row = Unit {0}
-GoodAt (Down p) n d row = p ≤ n
-GoodAt (Up zero) n d row = ⊥
-GoodAt (Up (suc i)) n d row = (1 ≤ i) × (i ≤ n) × (begins n d (take i row) ≡ true)
-GoodAt Given n d row = isNecklaceOf d (take n row) ≡ true
-GoodAt Ended n d row = ⊥
+abbrev pub GoodAt : Standing → Walk → Type 0
+GoodAt Limit w = Unit {0}
+GoodAt (Down p) w = p ≤ w .n
+GoodAt (Up zero) w = ⊥
+GoodAt (Up (suc i)) w = (1 ≤ i) × (i ≤ w .n) × (begins (w .n) (w .d) (take i (w .row)) ≡ true)
+GoodAt Given w = isNecklaceOf (w .d) (rowOf w) ≡ true
+GoodAt Ended w = ⊥
 
 pub record Good (R : Rules) (w : Walk) : Type 0 where
-  pub sound : Sound R (w .n) (w .d) (w .kind) (w .row)
-  pub placed : GoodAt (w .at) (w .n) (w .d) (w .row)
+  pub sound : Sound R w
+  pub placed : GoodAt (w .at) w
 
--- sizes in range, and symbols of zeros and ones
+-- what the record's own tests show, before it is looked at where the walk stands
 pub record Fitting (w : Walk) : Type 0 where
   pub some : 1 ≤ w .n
   pub most : w .n ≤ mostStations
   pub dense : w .d ≤ w .n
-  pub symbols : Symbols (w .row)
+  pub long : length (w .row) ≡ mostStations
+  pub symbols : Within 2 (w .row)
 
 -- how many symbols lie before the place where a walk stands
 abbrev pub before : Standing → ℕ → ℕ
@@ -62,8 +63,8 @@ before Ended n = 0
 
 -- a walk that a step takes up, from its record or after a ring of another kind
 pub record Ready (w : Walk) : Type 0 where
-  pub sound : Sound rules (w .n) (w .d) (w .kind) (w .row)
-  pub placed : (w .at ≡ Ended) ⊎ GoodAt (w .at) (w .n) (w .d) (w .row)
+  pub sound : Sound rules w
+  pub placed : (w .at ≡ Ended) ⊎ GoodAt (w .at) w
   pub within : before (w .at) (w .n) ≤ w .n
 
 -- ---- how many moves a walk may still make, at most

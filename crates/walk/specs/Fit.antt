@@ -1,23 +1,18 @@
 -- "Unfit (22)": which records are fit.
 use mathlib.Core.Bool.{Bool, true, _&&_}
-use mathlib.Core.List.{List, List·Memᴰ, [], _∷_}
+use mathlib.Core.List.{List·Memᴰ}
 use mathlib.Core.Logic.{_⊎_}
 use mathlib.Core.Path.{_≡_}
 use Prim.Native.Nat.{ℕ, _-_, _≤_}
 use lib.ListN.{getD, take, drop}
 use lib.Dec.{leb}
-use Rattle.words.specs.Claims.{Within}
+use Rattle.words.specs.Symbols.{Within, allUpTo}
 use Rattle.refusal.specs.Verdicts.{mostStations}
 use Rattle.density.specs.Necklaces.{isNecklaceOf, begins, necklaces, ofKind}
 use Rattle.walk.specs.declared.Standing.{Standing}
 use Rattle.walk.specs.declared.Standing.the-variants.{Limit, Down, Up, Given, Ended}
 use Rattle.walk.specs.declared.Walk.{Walk}
 use Rattle.walk.specs.Moves.{Rules, rowOf}
-
--- every symbol is at most b
-unfoldable pub allUpTo : ℕ → List ℕ → Bool
-allUpTo b [] = true
-allUpTo b (x ∷ xs) = leb x b && allUpTo b xs
 
 -- not "n, d or kind out of range"
 unfoldable pub fitSizes : Rules → Walk → Bool

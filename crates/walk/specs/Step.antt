@@ -10,7 +10,7 @@ use Rattle.walk.specs.declared.Answer.the-variants.{Ring, None, Refused}
 use Rattle.walk.specs.declared.Stepped.{Stepped}
 use Rattle.walk.specs.Moves.{Rules, Move, free, trial, answer, moveAt, rowOf}
 use Rattle.walk.specs.Fit.{fit}
-use Rattle.walk.specs.Listing.{Said, ring, none, refused, Told, told}
+use Rattle.listing.specs.Listing.{Said, says, ring, none, refused, Told, told}
 
 abbrev pub stepped : Walk → Answer → ℕ → Stepped
 stepped w a t = record { walk = w; answer = a; trials = t }
@@ -82,8 +82,8 @@ stepDue R w a = stepNumbers (stepOf R w a)
 
 -- what the numbers say, in the book's terms: "row, none, 20 or 21"
 abbrev pub saidBy : ℕ → List ℕ → Said
-saidBy zero [] = none
-saidBy zero (x ∷ row) = ring (x ∷ row)
+saidBy zero [] = says none
+saidBy zero (x ∷ row) = says (ring (x ∷ row))
 saidBy (suc c) row = refused (suc c)
 
 abbrev pub toldBy : StepNumbers → Told

@@ -4,7 +4,8 @@ use mathlib.Core.Bool.{false, true}
 use mathlib.Core.List.{List, [], _++_, _∷_}
 use Prim.Native.Nat.{suc, zero, ℕ, _-_}
 use lib.ListN.{take}
-use Rattle.walk.specs.Listing.{Listing, allLines, entry, linesFrom, necklacesBelow, necklacesUpTo, over, ring, strike}
+use Rattle.listing.specs.Listing.{Listing, allLines, entry, linesFrom, over, ring, strike}
+use Rattle.density.specs.Necklaces.{necklacesBelow, necklacesUpTo}
 use Rattle.walk.specs.Moves.{Rules}
 use Rattle.walk.specs.declared.Standing.{Standing}
 use Rattle.walk.specs.declared.Standing.the-variants.{Down, Ended, Given, Limit, Up}

@@ -8,7 +8,7 @@ use prefix::carried::Known;
 use prefix::carried::Prefixes;
 use refusal::Refusal;
 ghost use mathlib.Core.Path.{_≡_};
-ghost use Prim.Native.Nat.{_+_, _-_, _≤_};
+ghost use Prim.Native.Nat.{_+_, _-_};
 ghost use lib.ListN.{take};
 ghost use Rattle.prefix.specs.Carried.{Knows, KnowsPrefixes};
 ghost use Rattle.walk.specs.Moves.{rowOf, rules, goneBelow};
@@ -211,7 +211,7 @@ impl Walk {
         ensures { λ r. ⌜ Resumes self left r ⌝ }
     {
         Reached {
-            row: [0u8; 64],
+            row: [0u8; refusal::MOST_STATIONS],
             at: Standing::Ended,
             left,
             said: Said::Says(Answer::None),

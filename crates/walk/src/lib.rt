@@ -2,6 +2,7 @@
 mod course;
 mod rows;
 
+use density::drawers::Checked;
 use prefix::carried::Known;
 use prefix::carried::Prefixes;
 use refusal::Refusal;
@@ -13,10 +14,10 @@ ghost use Rattle.prefix.specs.Carried.{Knows, KnowsPrefixes};
 ghost use Rattle.walk.specs.Moves.{rowOf, rules};
 ghost use Rattle.walk.specs.Fit.{fitSizes, fitRow, fitAt};
 ghost use Rattle.walk.specs.Step.{stepDue, stepNumbers, stepOf, stepped};
-ghost use Rattle.walk.specs.Opening.{openVerdict, openAnswer, openNumbers};
+ghost use Rattle.walk.specs.Opening.{openOutcome, openVerdict, openWalk, refusedWalk};
 ghost use Rattle.walk.specs.Course.{Fitting, before};
-ghost use Rattle.refusal.specs.Verdicts.{Verdict, verdictNumbers};
-ghost use mathlib.Core.List.{[]};
+ghost use Rattle.refusal.specs.Outcomes.{Outcome, decide};
+ghost use Rattle.refusal.specs.Verdicts.{mostStations};
 
 // Where a walk stands.
 pub enum Standing {
@@ -32,7 +33,7 @@ pub struct Walk {
     pub n: usize,
     pub d: usize,
     pub kind: u8,
-    pub row: [u8; 64],
+    pub row: [u8; refusal::MOST_STATIONS],
     pub at: Standing,
 }
 
@@ -53,7 +54,7 @@ pub struct Stepped {
 // Whether a walk was opened.
 pub enum OpenAnswer {
     Open,
-    NotOpen(Refusal),
+    Refused(Refusal),
 }
 
 // What opening hands back.
@@ -70,7 +71,7 @@ pub enum Said {
 
 // Where a part of a step has brought a walk, with the trials left.
 pub struct Reached {
-    pub row: [u8; 64],
+    pub row: [u8; refusal::MOST_STATIONS],
     pub at: Standing,
     pub left: u64,
     pub said: Said,
@@ -78,9 +79,9 @@ pub struct Reached {
 
 // The walk of a refused opening.
 fn not_open(r: Refusal) -> Opened
-    ensures { λ o. ⌜ o ≡ openAnswer (Verdict.refused r) rules 0 0 0 [] ⌝ }
+    ensures { λ o. ⌜ (openOutcome (o .answer) ≡ Outcome.refused r) × (o .walk ≡ refusedWalk rules) ⌝ }
 {
-    let row = [0u8; 64];
+    let row = [0u8; refusal::MOST_STATIONS];
     let walk = Walk {
         n: 1,
         d: 0,
@@ -90,33 +91,21 @@ fn not_open(r: Refusal) -> Opened
     };
     Opened {
         walk,
-        answer: OpenAnswer::NotOpen(r),
+        answer: OpenAnswer::Refused(r),
     }
 }
 
 impl Walk {
     // Opens a walk of the necklaces of (n, d) of a kind, at or below a limit.
     pub fn open(n: usize, d: usize, kind: u8, limit: &[u8]) -> Opened
-        ensures answer { λ r. ⌜ r ≡ openAnswer (openVerdict n d kind (now (limit .entry))) rules n d kind (now (limit .entry)) ⌝ }
-        ensures numbers { λ r. ⌜ openNumbers (r .answer) ≡ verdictNumbers (openVerdict n d kind (now (limit .entry))) ⌝ }
+        ensures answer { λ r. ⌜ openOutcome (r .answer) ≡ decide (openVerdict n d kind (now (limit .entry))) tt ⌝ }
+        ensures walk { λ r. ⌜ r .walk ≡ openWalk (openVerdict n d kind (now (limit .entry))) rules n d kind (now (limit .entry)) ⌝ }
     {
-        if !refusal::are_stations(n) {
-            return not_open(Refusal::Stations);
+        let checked = density::drawers::check_drawer(n, d, kind, limit);
+        if let Checked::Refused(r) = checked {
+            return not_open(r);
         }
-        if n < d {
-            return not_open(Refusal::Holes);
-        }
-        if !density::kinds::is_kind(kind) {
-            return not_open(Refusal::Kind);
-        }
-        if limit.len() != n {
-            return not_open(Refusal::Limit);
-        }
-        let wrong = words::first_wrong(limit, 2);
-        if wrong != 0 {
-            return not_open(Refusal::Symbol(wrong));
-        }
-        let row = words::inner::padded(limit);
+        let row = density::rows::padded(limit);
         let walk = Walk {
             n,
             d,
@@ -148,7 +137,7 @@ impl Walk {
 
     // n symbols, and zeros after them.
     fn fit_row(self) -> bool
-        requires { ⌜ self .n ≤ 64 ⌝ }
+        requires { ⌜ self .n ≤ mostStations ⌝ }
         ensures { λ r. ⌜ r ≡ fitRow self ⌝ }
     {
         let n = self.n;

@@ -2,7 +2,7 @@
 ghost use mathlib.Core.Path.{_≡_};
 ghost use Prim.Native.Nat.{ℕ, _-_};
 ghost use lib.Dec.{leb};
-ghost use Rattle.walk.specs.Fit.{allUpTo};
+ghost use Rattle.words.specs.Symbols.{allUpTo};
 
 // The highest symbol, 0 of an empty row. Without an early exit, the loop runs on vectors.
 pub fn highest(s: &[u8]) -> u8

@@ -2,6 +2,7 @@
 use walk::Answer;
 use walk::Walk;
 ghost use Prim.Native.Nat.{_≤_};
+ghost use Rattle.refusal.specs.Verdicts.{mostStations};
 
 // More trials than any run here makes.
 const ALLOWANCE: u64 = 1000000000000;
@@ -15,9 +16,9 @@ fn print_counts(rings: u64, trials: u64) {
 
 // The allowance is one for the whole walk: what a step made is not allowed to the next.
 fn walk_drawer(n: usize, d: usize, kind: u8, most: u64)
-    requires { ⌜ n ≤ 64 ⌝ }
+    requires { ⌜ n ≤ mostStations ⌝ }
 {
-    let limit = [1u8; 64];
+    let limit = [1u8; refusal::MOST_STATIONS];
     let opened = Walk::open(n, d, kind, &limit[..n]);
     let mut walk = opened.walk;
     let mut left = ALLOWANCE;
@@ -60,7 +61,7 @@ fn main() {
         return;
     }
     let n = wide(asked[0]);
-    if n <= 64 {
+    if n <= refusal::MOST_STATIONS {
         walk_drawer(n, wide(asked[1]), asked[2], hundreds(asked[3]));
     }
 }

@@ -56,13 +56,13 @@ fn allowance_of(pattern: usize, i: usize) -> usize
 }
 
 // Whether a trial is due: at a 1 for Down, or at Up.
-fn is_due(row: &[u8; 64], at: Standing) -> bool {
+fn is_due(row: &[u8; refusal::MOST_STATIONS], at: Standing) -> bool {
     match at {
         Standing::Down(p) => {
             if p < 1 {
                 return false;
             }
-            if 64 < p {
+            if refusal::MOST_STATIONS < p {
                 return false;
             }
             row[p - 1] == 1
@@ -76,7 +76,7 @@ fn is_due(row: &[u8; 64], at: Standing) -> bool {
 
 // Whether the walk's row and standing fit the answer.
 fn left_right(number: usize, n: usize, answer: u8, before: Walk, after: Walk) -> bool {
-    if 64 < n {
+    if refusal::MOST_STATIONS < n {
         return false;
     }
     let row = after.row;
@@ -90,7 +90,7 @@ fn left_right(number: usize, n: usize, answer: u8, before: Walk, after: Walk) ->
             plain_walks::standing_number(at) == 3
         }
         1 => {
-            if !plain_walks::same_row(&row, &[0u8; 64]) {
+            if !plain_walks::same_row(&row, &[0u8; refusal::MOST_STATIONS]) {
                 return false;
             }
             plain_walks::standing_number(at) == 4

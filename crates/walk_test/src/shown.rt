@@ -4,7 +4,7 @@ use walk::OpenAnswer;
 use walk::Standing;
 use walk::Walk;
 
-fn print_line(number: usize, n: usize, row: [u8; 64], trials: u64) {
+fn print_line(number: usize, n: usize, row: [u8; refusal::MOST_STATIONS], trials: u64) {
     plain_rows::print_named(b"", number);
     io::write_all(1, b" ");
     plain_rows::print_row(n, &row);
@@ -46,7 +46,7 @@ fn print_rings(opened: Walk) {
 
 // The walk that a refused opening hands back: of (1, 0), kind 1, Ended.
 fn is_no_walk(w: Walk) -> bool {
-    let row = [0u8; 64];
+    let row = [0u8; refusal::MOST_STATIONS];
     let none = Walk {
         n: 1,
         d: 0,
@@ -81,7 +81,7 @@ fn show(n: usize, d: usize, kind: u8, digits: &[u8]) {
     io::write_all(1, b"\n");
     match answer {
         OpenAnswer::Open => print_rings(w),
-        OpenAnswer::NotOpen(r) => print_refused(r, w),
+        OpenAnswer::Refused(r) => print_refused(r, w),
     }
 }
 

@@ -1,12 +1,12 @@
 -- At or below: a total order on rows (O1).
 use mathlib.Core.List.{List, [], append-cancel-left, append-nil, _++_, _∷_}
 use mathlib.Core.Logic.{inl, inr, _⊎_}
-use mathlib.Core.Path.{ap, refl, subst, sym, _≡_}
+use mathlib.Core.Path.{ap, refl, sym, _≡_}
 use Prim.Native.Nat.{Ordering, ℕ, _<_}
 use native.Mathlib.Omega.{arith}
-use lib.ListN.{length, take}
+use lib.ListN.{length}
 use Rattle.words.proofs.Below.{Means, cmp-means, is-eq, is-gt, is-lt, longer, there, ≺-asym, ≺-irrefl, ≺-size, ≺-strip, ≺-trans, ≺-uncons, _≺_}
-use Rattle.words.proofs.FirstDifference.{ext, ext-right, same-length, ≪-take, _≪_}
+use Rattle.words.proofs.FirstDifference.{ext, same-length}
 
 infix 50 _≼_
 pub data _≼_ (a b : List ℕ) : Type 0 where
@@ -25,10 +25,6 @@ pub ≺-≼-trans : {a b c : List ℕ} → a ≺ b → b ≼ c → a ≺ c
 ≺-≼-trans h (equal f) = rw f at h
 ≺-≼-trans h (lower k) = ≺-trans h k
 
-pub ≼-≺-trans : {a b c : List ℕ} → a ≼ b → b ≺ c → a ≺ c
-≼-≺-trans (equal e) k = rw e k
-≼-≺-trans (lower h) k = ≺-trans h k
-
 pub ≼-antisym : {a b : List ℕ} → a ≼ b → b ≼ a → a ≡ b
 ≼-antisym (equal e) k = e
 ≼-antisym (lower h) (equal f) = sym f
@@ -42,13 +38,6 @@ pub ≼-or : (a b : List ℕ) → (a ≼ b) ⊎ (b ≺ a)
     go (is-lt h) = inl (lower h)
     go (is-eq e) = inl (equal e)
     go (is-gt h) = inr h
-
-pub ≼-total : (a b : List ℕ) → (a ≼ b) ⊎ (b ≼ a)
-≼-total a b = go (≼-or a b)
-  where
-    go : (a ≼ b) ⊎ (b ≺ a) → (a ≼ b) ⊎ (b ≼ a)
-    go (inl h) = inl h
-    go (inr h) = inr (lower h)
 
 pub not-both : {a b : List ℕ} → a ≺ b → b ≼ a → ⊥
 not-both h (equal e) = ≺-irrefl (rw e at h)
@@ -86,15 +75,6 @@ pub ≼-uncons : {x y : ℕ} {xs ys : List ℕ} → (x ∷ xs) ≼ (y ∷ ys) �
 pub ≼-ext : {a b : List ℕ} → length a ≡ length b → a ≼ b → {u v : List ℕ} → u ≼ v → (a ++ u) ≼ (b ++ v)
 ≼-ext {a} {b} l (equal e) {u} {v} k = rw e (≼-under b k)
 ≼-ext l (lower h) {u} {v} k = lower (ext (same-length h l) u v)
-
--- equally long beginnings of rows of one length
-pub ≼-take : (m : ℕ) {a b : List ℕ} → length a ≡ length b → a ≼ b → take m a ≼ take m b
-≼-take m l (equal e) = equal (ap (take m) e)
-≼-take m {a} {b} l (lower h) = go (≪-take (same-length h l) m)
-  where
-    go : (take m a ≡ take m b) ⊎ (_≪_ (take m a) (take m b)) → take m a ≼ take m b
-    go (inl e) = equal e
-    go (inr d) = lower (subst (λ w. take m a ≺ w) (append-nil (take m b)) (ext-right d []))
 
 -- between two rows with a common beginning
 pub squeezed : (p x y b : List ℕ) → (p ++ x) ≺ b → b ≼ (p ++ y) → (t : List ℕ) × (b ≡ p ++ t)

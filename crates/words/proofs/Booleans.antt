@@ -2,6 +2,8 @@
 use mathlib.Core.Bool.{Bool, and-eq-true-iff, false, true, _&&_, _||_}
 use mathlib.Core.Logic.{inl, inr, _⊎_}
 use mathlib.Core.Path.{refl, sym, _≡_}
+use Prim.Native.Nat.{ℕ}
+use native.Mathlib.Omega.{arith}
 
 pub and→ : (a b : Bool) → (a && b) ≡ true → (a ≡ true) × (b ≡ true)
 and→ a b e = let r = and-eq-true-iff a b .0 e in (r .0, r .1)
@@ -23,3 +25,7 @@ same-test false false f g = refl
 pub never : (t : Bool) → (t ≡ true → ⊥) → t ≡ false
 never true f = absurd (f refl)
 never false f = refl
+
+-- two constructors that are said to be equal: `cc` makes 0 ≡ 1 of it
+pub clash : {A : Type 0} → _≡_ {A = ℕ} 0 1 → A
+clash e = absurd (omega arith)

@@ -8,15 +8,16 @@ use native.Mathlib.Omega.{arith}
 use lib.Dec.{eqb, ltb}
 use lib.ListN.{getD, length}
 use borrow.Author.Tests.{eqb-false, eqb-true, ltb-false, ltb-true}
+use Rattle.words.proofs.Alphabet.{within-cons, within-nil}
 use Rattle.words.proofs.Below.{≺-irrefl}
 use Rattle.words.proofs.Bounded.{allBelow→, →allBelow}
 use Rattle.words.proofs.LeastRotation.{least-index}
 use Rattle.words.proofs.OrderTests.{→le}
 use Rattle.words.proofs.Periods.{period-of}
-use Rattle.words.specs.Claims.{FirstOther, LeastTurn, PlaceOfFirst, Shelved, SmallestPeriod, SmallestTurn, Within, WithoutSymmetry}
+use Rattle.words.specs.Claims.{FirstOther, LeastTurn, PlaceOfFirst, Shelved, SmallestPeriod, SmallestTurn, WithoutSymmetry}
 use Rattle.words.specs.Order.{le, lt}
 use Rattle.words.specs.Rotation.{isLyndon, isNecklace, leastIndex, leastRotation, rotation}
-use Rattle.words.specs.Symbols.{firstWrong, later}
+use Rattle.words.specs.Symbols.{Within, firstWrong, later}
 use Rattle.words.specs.Tests.{allBelow}
 
 -- ---- turns
@@ -51,10 +52,6 @@ smallest-turn w h = let i = least-index w h in (i .inside, refl, λ j l e. ≺-i
 -- ---- symbols
 
 module _ (k x : ℕ) (w : List ℕ) where
-  within-cons : x < k → Within k w → Within k (x ∷ w)
-  within-cons h a zero l = h
-  within-cons h a (suc i) l = a i (omega arith)
-
   other-later : x < k → (p : ℕ) → FirstOther k w p → FirstOther k (x ∷ w) (later p)
   other-later h p o = record { before = suc (o .before); place = ap later (o .place); inside = omega (arith, o .inside); other = o .other; first = first }
     where
@@ -64,12 +61,12 @@ module _ (k x : ℕ) (w : List ℕ) where
 
 pub place-of-first : PlaceOfFirst
 unfolding firstWrong
-place-of-first k [] = inl (λ i h. absurd (omega arith), refl)
+place-of-first k [] = inl (within-nil, refl)
 place-of-first k (x ∷ w) = go (ltb x k) refl (firstWrong k w) (place-of-first k w)
   where
     go : (b : Bool) → ltb x k ≡ b → (p : ℕ) → (Within k w × (p ≡ 0)) ⊎ FirstOther k w p
         → (Within k (x ∷ w) × (cond b (later p) 1 ≡ 0)) ⊎ FirstOther k (x ∷ w) (cond b (later p) 1)
-    go true e p (inl a) = inl (within-cons k x w (ltb-true x k e) (a .0), ap later (a .1))
+    go true e p (inl a) = inl (within-cons w (ltb-true x k e) (a .0), ap later (a .1))
     go true e p (inr o) = inr (other-later k x w (ltb-true x k e) p o)
     go false e p ih = inr (record { before = 0; place = refl; inside = omega arith; other = ltb-false x k e; first = λ i l. absurd (omega arith) })
 

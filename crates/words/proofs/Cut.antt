@@ -1,6 +1,4 @@
 -- Levi's lemma: two cuts of one row.
-
--- p is x and more, r; and y is r and q
 use mathlib.Core.List.{List, [], append-nil, _++_, _∷_}
 use mathlib.Core.Logic.{inl, inr, _⊎_}
 use mathlib.Core.Path.{ap, refl, sym, _∙_, _≡_}
@@ -8,6 +6,7 @@ use Prim.Native.Nat.{ℕ, _≤_}
 use native.Mathlib.Omega.{arith}
 use lib.ListN.{length, length-append}
 
+-- p is x and more, r; and y is r and q
 pub record Cut (p x y q : List ℕ) : Type 0 where
   pub r : List ℕ
   pub left : p ≡ x ++ r

@@ -3,12 +3,12 @@ use mathlib.Core.Bool.{Bool, cond, false, true}
 use mathlib.Core.List.{List, List·Memᴰ, List·Memᴰ·append-cases, List·Memᴰ·cases-cons, List·Memᴰ·head, List·Memᴰ·tail, Memᴰ·append-left, Memᴰ·append-right, Memᴰ·of-map, [], headD, map, _++_, _∷_}
 use mathlib.Core.Logic.{inl, inr, _⊎_}
 use mathlib.Core.Path.{ap, refl, subst, sym, _∙_, _≡_}
-use Prim.Native.Nat.{suc, ℕ, _≤_}
+use Prim.Native.Nat.{suc, ℕ, _<_, _≤_}
 use native.Mathlib.Omega.{arith}
 use lib.ListN.{length}
-use Rattle.words.proofs.AtMost.{equal, lower, ≼-antisym, ≼-refl, _≼_}
-use Rattle.words.proofs.Below.{there, ≺-asym, ≺-irrefl, _≺_}
-use Rattle.words.proofs.Lists.{keep-same, keep→, →keep}
+use Rattle.words.proofs.AtMost.{equal, lower, ≺-≼-trans, ≼-antisym, ≼-refl, _≼_}
+use Rattle.words.proofs.Below.{there, ≺-asym, ≺-irrefl, ≺-trans, _≺_}
+use Rattle.words.proofs.Lists.{keep-all, keep-same, keep→, →keep}
 use Rattle.words.proofs.OrderTests.{le→, lt→, not-le, not-lt, →le, →lt}
 use Rattle.words.specs.Falling.{Falling, Highest, falls-from, falls-none}
 use Rattle.words.specs.Order.{le, lt}
@@ -138,3 +138,51 @@ keep-fewer p (x ∷ l) = go (p x) (keep-fewer p l)
     go : (b : Bool) → length (keep p l) ≤ length l → length (cond b (x ∷ keep p l) (keep p l)) ≤ suc (length l)
     go true h = omega arith
     go false h = omega arith
+
+-- a filter that a row of the list fails
+pub keep-less : (p : List ℕ → Bool) {x : List ℕ} {l : List (List ℕ)} → List·Memᴰ x l → p x ≡ false → length (keep p l) < length l
+unfolding keep
+keep-less p (List·Memᴰ·head {xs = l} q) e = rw (← q, e) (omega (arith, keep-fewer p l))
+keep-less p (List·Memᴰ·tail {x = y} {xs = l} m) e = go (p y) (keep-less p m e)
+  where
+    go : (b : Bool) → length (keep p l) < length l → length (cond b (y ∷ keep p l) (keep p l)) < suc (length l)
+    go true h = omega arith
+    go false h = omega arith
+
+-- ---- the rows below one
+
+-- in a falling list, what is below x is its first and what is below that
+pub rest-below : {x r : List ℕ} {rs l : List (List ℕ)} → Falling l → r ≺ x → List·Memᴰ r l → keep (λ v. lt v x) l ≡ r ∷ rs → keep (λ v. lt v r) l ≡ rs
+unfolding keep
+rest-below {x} {r} {rs} (falls-from {w = w} {l = l} h f) low (List·Memᴰ·head q) e =
+    let a : lt w x ≡ true = →lt w x (rw q at low) in
+    let b : lt w r ≡ false = not-lt w r (equal q) in
+    let t : w ∷ keep (λ v. lt v x) l ≡ r ∷ rs = rw a at e in
+    rw b (keep-same (λ v. lt v r) (λ v. lt v x) l (λ v m. both v (rw (← q) at (lt→ v w (h v m)))) ∙ cons-tail t)
+  where
+    cons-tail : {a b : List ℕ} {us vs : List (List ℕ)} → a ∷ us ≡ b ∷ vs → us ≡ vs
+    cons-tail e = cc
+
+    both : (v : List ℕ) → v ≺ r → lt v r ≡ lt v x
+    both v k = →lt v r k ∙ sym (→lt v x (≺-trans k low))
+rest-below {x} {r} {rs} (falls-from {w = w} {l = l} h f) low (List·Memᴰ·tail m) e = go (lt w x) refl (rest-below f low m)
+  where
+    cons-head : {a b : List ℕ} {us vs : List (List ℕ)} → a ∷ us ≡ b ∷ vs → a ≡ b
+    cons-head e = cc
+
+    b : lt w r ≡ false
+    b = not-lt w r (lower (lt→ r w (h r m)))
+
+    go : (t : Bool) → lt w x ≡ t → (keep (λ v. lt v x) l ≡ r ∷ rs → keep (λ v. lt v r) l ≡ rs) → keep (λ v. lt v r) (w ∷ l) ≡ rs
+    go true q ih = let t : w ∷ keep (λ v. lt v x) l ≡ r ∷ rs = rw q at e in absurd (≺-irrefl (rw (cons-head t) at (lt→ r w (h r m))))
+    go false q ih = rw b (ih (rw q at e))
+
+-- in a falling list the rows at or below x are its end
+pub ends-below : (x : List ℕ) {l : List (List ℕ)} → Falling l → (pre : List (List ℕ)) × (l ≡ pre ++ keep (λ r. le r x) l)
+unfolding keep
+ends-below x falls-none = ([], refl)
+ends-below x (falls-from {w = w} {l = l} h f) = go (le w x) refl (ends-below x f)
+  where
+    go : (t : Bool) → le w x ≡ t → ((pre : List (List ℕ)) × (l ≡ pre ++ keep (λ r. le r x) l)) → (pre : List (List ℕ)) × (w ∷ l ≡ pre ++ cond t (w ∷ keep (λ r. le r x) l) (keep (λ r. le r x) l))
+    go true e ih = ([], ap {B = List (List ℕ)} (λ t. w ∷ t) (sym (keep-all (λ r. le r x) l (λ v m. →le v x (lower (≺-≼-trans (lt→ v w (h v m)) (le→ w x e)))))))
+    go false e ih = (w ∷ ih .0, ap {B = List (List ℕ)} (λ t. w ∷ t) (ih .1))

@@ -1,14 +1,13 @@
 -- The first difference of two rows: what follows it doesn't matter (O2, O3).
-
--- a lies below b, and they differ at a place within both
 use mathlib.Core.List.{List, [], _++_, _∷_}
 use mathlib.Core.Logic.{inl, inr, _⊎_}
-use mathlib.Core.Path.{ap, refl, sym, _≡_}
-use Prim.Native.Nat.{Ordering, suc, zero, ℕ, _<_, _≤_}
+use mathlib.Core.Path.{ap, refl, _≡_}
+use Prim.Native.Nat.{ℕ, _<_, _≤_}
 use native.Mathlib.Omega.{arith}
-use lib.ListN.{length, take}
-use Rattle.words.proofs.Below.{Means, cmp-means, here, is-eq, is-gt, is-lt, short, there, ≺-uncons, _≺_}
+use lib.ListN.{length}
+use Rattle.words.proofs.Below.{here, short, there, ≺-uncons, _≺_}
 
+-- a lies below b, and they differ at a place within both
 pub data _≪_ : List ℕ → List ℕ → Type 0 where
   at-head : {x y : ℕ} {xs ys : List ℕ} → x < y → _≪_ (x ∷ xs) (y ∷ ys)
   in-tail : {x : ℕ} {xs ys : List ℕ} → _≪_ xs ys → _≪_ (x ∷ xs) (x ∷ ys)
@@ -65,26 +64,6 @@ not-shorter (there h) l = in-tail (not-shorter h (omega arith))
 
 pub same-length : {a b : List ℕ} → a ≺ b → length a ≡ length b → _≪_ a b
 same-length h e = not-shorter h (omega arith)
-
--- two rows of one length that differ, differ first at one place
-pub first-difference : (a b : List ℕ) → length a ≡ length b → (a ≡ b → ⊥) → Differ a b ⊎ Differ b a
-first-difference a b l n = go (cmp-means a b)
-  where
-    go : {o : Ordering} → Means _≺_ a b o → Differ a b ⊎ Differ b a
-    go (is-lt h) = inl (differ (same-length h l))
-    go (is-eq e) = absurd (n e)
-    go (is-gt h) = inr (differ (same-length h (sym l)))
-
--- equally long beginnings keep the order
-pub ≪-take : {a b : List ℕ} → _≪_ a b → (m : ℕ) → (take m a ≡ take m b) ⊎ (_≪_ (take m a) (take m b))
-≪-take (at-head h) zero = inl refl
-≪-take (at-head h) (suc m) = inr (at-head h)
-≪-take (in-tail h) zero = inl refl
-≪-take (in-tail {x = x} h) (suc m) = go (≪-take h m)
-  where
-    go : {u v : List ℕ} → (u ≡ v) ⊎ (_≪_ u v) → (x ∷ u ≡ x ∷ v) ⊎ (_≪_ (x ∷ u) (x ∷ v))
-    go (inl e) = inl (cc)
-    go (inr d) = inr (in-tail d)
 
 -- p and more is below r c and more, where r is shorter than p: so it is below r b and more, where b is above c
 pub raise-symbol : (p q r z : List ℕ) (c : ℕ) → (p ++ q) ≺ (r ++ (c ∷ z)) → length r < length p

@@ -1,6 +1,4 @@
 -- What may follow a Lyndon word in a necklace (P6, P7).
-
--- ---- P6: in a necklace, no rotation of what follows a Lyndon word is below it
 use mathlib.Core.List.{List, append-assoc, append-nil, _++_, _∷_}
 use mathlib.Core.Logic.{inl, inr, _⊎_}
 use mathlib.Core.Path.{ap, subst, sym, _∙_, _≡_}
@@ -14,6 +12,8 @@ use Rattle.words.proofs.Lyndon.{Lyndon, join, join-below, lyndon-size, 
 use Rattle.words.proofs.Power.{power}
 use Rattle.words.proofs.PowerOrder.{Necklace, lyndon→necklace, power-necklace}
 use Rattle.words.proofs.Root.{Root, root}
+
+-- ---- P6: in a necklace, no rotation of what follows a Lyndon word is below it
 
 module _ (g d e : List ℕ) (l : Lyndon g) (some : 0 < length e) (s : Necklace (g ++ (d ++ e))) where
   -- the rotation that begins at e

@@ -1,6 +1,4 @@
 -- A loop that writes the list E to the front of a slice that held O.
-
--- E is written as far as i
 use mathlib.Core.List.{List, _++_}
 use mathlib.Core.Path.{ap, sym, _∙_, _≡_}
 use Prim.Native.Nat.{suc, ℕ, _+_, _<_, _≤_}
@@ -9,6 +7,7 @@ use native.Mathlib.Omega.{arith}
 use lib.ListN.{drop, getD, length, length-append, length-drop, set, take}
 use lib.Seq.{append-snoc, drop-cons, length-take-le, set-at, take-all, take-suc}
 
+-- E is written as far as i
 abbrev pub Front : List ℕ → List ℕ → ℕ → List ℕ → Type 0
 Front E O i o = o ≡ take i E ++ drop i O
 

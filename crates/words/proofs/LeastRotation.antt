@@ -1,14 +1,11 @@
 -- The least rotation of a row: it is the only necklace among the row's rotations, and the same for all of them.
-use mathlib.Core.Bool.{Bool, false, true}
-use mathlib.Core.List.{List, [], _∷_}
+use mathlib.Core.List.{List}
 use mathlib.Core.Logic.{inl, inr, _⊎_}
 use mathlib.Core.Path.{ap, refl, subst, sym, _∙_, _≡_}
 use Prim.Native.Nat.{pred, suc, zero, ℕ, _+_, _<_, _≤_}
 use native.Mathlib.Numerals.{add-one}
 use native.Mathlib.Omega.{arith}
-use lib.Dec.{eqb}
 use lib.ListN.{length}
-use borrow.Author.Tests.{eqb-false, eqb-true}
 use Rattle.words.proofs.AtMost.{lower, not-both, ≺-≼-trans, ≼-antisym, ≼-or, ≼-refl, _≼_}
 use Rattle.words.proofs.Below.{le-or, _≺_}
 use Rattle.words.proofs.Booleans.{never}
@@ -16,10 +13,9 @@ use Rattle.words.proofs.Bounded.{allBelow→, first-is, pred-size, →a
 use Rattle.words.proofs.OrderTests.{le→, →le}
 use Rattle.words.proofs.PowerOrder.{Necklace}
 use Rattle.words.proofs.RotationAgain.{IsRotation, rotation-sym, rotation-trans}
-use Rattle.words.proofs.Rotations.{index→necklace, isNecklace→, necklace→index, rotation-length, rotation-zero, →isNecklace}
+use Rattle.words.proofs.Rotations.{index→necklace, necklace→index, rotation-length}
 use Rattle.words.specs.Order.{le}
-use Rattle.words.specs.Rotation.{isLeastAt, isNecklace, leastIndex, leastRotation, rotation}
-use Rattle.words.specs.Tests.{firstFrom}
+use Rattle.words.specs.Rotation.{isLeastAt, leastIndex, leastRotation, rotation}
 
 -- ---- the least of the first k rotations, at its first place
 
@@ -86,10 +82,6 @@ module _ (w : List ℕ) (h : 0 < length w) where
   unfolding leastRotation
   least-low r = rw (r .is) (least-index w h .low (r .by) (r .inside))
 
-  pub least-length : length (leastRotation w) ≡ length w
-  unfolding leastRotation
-  least-length = rotation-length (leastIndex w) w
-
   -- the least rotation is a necklace
   pub least-necklace : Necklace (leastRotation w)
   least-necklace = index→necklace (leastRotation w) (λ j k. least-low (rotation-trans least-rotated (record { by = j; inside = k; is = refl })))
@@ -110,28 +102,3 @@ least-same {w} {v} h r =
 -- and the other way round
 pub same-least : {w v : List ℕ} → 0 < length w → 0 < length v → leastRotation v ≡ leastRotation w → IsRotation w v
 same-least {w} {v} h k e = rotation-trans (subst (λ u. IsRotation w u) (sym e) (least-rotated w h)) (rotation-sym (least-rotated v k))
-
--- ---- a necklace is its own least rotation
-
-pub necklace-index : (w : List ℕ) → Necklace w → leastIndex w ≡ 0
-unfolding leastIndex firstFrom
-necklace-index [] s = refl
-necklace-index (x ∷ xs) s =
-    least-is (x ∷ xs) 0 (record { inside = omega arith; low = λ i h. rw (rotation-zero (x ∷ xs)) (necklace→index (x ∷ xs) s i h); first = λ i h. absurd (omega arith) })
-
-pub necklace-least : (w : List ℕ) → Necklace w → leastRotation w ≡ w
-unfolding leastRotation
-necklace-least w s = rw (necklace-index w s) (rotation-zero w)
-
-pub index-necklace : (w : List ℕ) → leastIndex w ≡ 0 → Necklace w
-unfolding leastRotation
-index-necklace [] e = index→necklace [] (λ j h. absurd (omega arith))
-index-necklace (x ∷ xs) e = subst Necklace (ap (λ j. rotation j (x ∷ xs)) e ∙ rotation-zero (x ∷ xs)) (least-necklace (x ∷ xs) (omega arith))
-
--- the test of a necklace, by the least rotation's number
-pub necklace-test : (w : List ℕ) → isNecklace w ≡ eqb (leastIndex w) 0
-necklace-test w = go (eqb (leastIndex w) 0) refl
-  where
-    go : (t : Bool) → eqb (leastIndex w) 0 ≡ t → isNecklace w ≡ t
-    go true e = →isNecklace w (index-necklace w (eqb-true (leastIndex w) 0 e))
-    go false e = never (isNecklace w) (λ s. eqb-false (leastIndex w) 0 e (necklace-index w (isNecklace→ w s)))

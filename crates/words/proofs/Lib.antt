@@ -28,12 +28,17 @@ pub mod Repetition
 pub mod OnePeriod
 pub mod Following
 pub mod ScanSteps
+-- rows over an alphabet
+pub mod Alphabet
+pub mod HighestSymbol
 -- for loops: wrong symbols, writing the front of a buffer
 pub mod Zeros
 pub mod Wrong
 pub mod Front
 -- the pass over a row and one symbol more
 pub mod ScanMore
+pub mod AllButLast
+pub mod LeadingZeros
 -- the period of a necklace in one pass
 pub mod OnePass
 -- what is claimed in specs/

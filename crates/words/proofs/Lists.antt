@@ -1,8 +1,8 @@
 -- Filters, searches and prefixes of lists: what the tests mean.
-use mathlib.Core.Bool.{Bool, and-eq-true-iff, cond, false, false≢true, or-true, true, _||_}
+use mathlib.Core.Bool.{Bool, and-eq-true-iff, cond, false, false≢true, or-true, true, _&&_, _||_}
 use mathlib.Core.List.{List, List·Memᴰ, List·Memᴰ·cases-cons, List·Memᴰ·head, List·Memᴰ·not-nil, List·Memᴰ·tail, [], _++_, _∷_}
 use mathlib.Core.Logic.{inl, inr, _⊎_}
-use mathlib.Core.Path.{refl, _≡_}
+use mathlib.Core.Path.{ap, refl, _≡_}
 use Prim.Native.Nat.{ℕ}
 use lib.Dec.{eqb}
 use borrow.Author.Tests.{eq-eqb, eqb-true}
@@ -43,6 +43,16 @@ pub keep-all : (p : List ℕ → Bool) (l : List (List ℕ)) → ((w : List ℕ)
 unfolding keep
 keep-all p [] h = refl
 keep-all p (w ∷ l) h = rw (h w (List·Memᴰ·head refl), keep-all p l (λ v m. h v (List·Memᴰ·tail m)))
+
+-- of a filter's rows, those that pass another test
+pub keep-keep : (p q : List ℕ → Bool) (l : List (List ℕ)) → keep q (keep p l) ≡ keep (λ r. p r && q r) l
+unfolding keep
+keep-keep p q [] = refl
+keep-keep p q (x ∷ l) = go (p x) (keep-keep p q l)
+  where
+    go : (b : Bool) → keep q (keep p l) ≡ keep (λ r. p r && q r) l → keep q (cond b (x ∷ keep p l) (keep p l)) ≡ cond (b && q x) (x ∷ keep (λ r. p r && q r) l) (keep (λ r. p r && q r) l)
+    go true e = ap {B = List (List ℕ)} (λ t. cond (q x) (x ∷ t) t) e
+    go false e = e
 
 pub any→ : (p : List ℕ → Bool) (l : List (List ℕ)) → any p l ≡ true → (w : List ℕ) × List·Memᴰ w l × (p w ≡ true)
 unfolding any

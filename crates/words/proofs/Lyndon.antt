@@ -1,17 +1,15 @@
--- Lyndon words by rotations and by suffixes (L1), without borders (L2), and joined (L3).
-
--- w is below each of its rotations but the whole, written by its two parts
+-- Lyndon words by rotations and by suffixes, and joined.
 use mathlib.Core.List.{List, [], _++_, _∷_}
 use mathlib.Core.Logic.{inl, inr, _⊎_}
 use mathlib.Core.Path.{ap, refl, subst, sym, _∙_, _≡_}
 use Prim.Native.Nat.{Ordering, ℕ, _<_}
 use native.Mathlib.Omega.{arith}
 use lib.ListN.{length, length-append}
-use Rattle.words.proofs.AtMost.{not-both, ≼-append}
 use Rattle.words.proofs.Below.{Means, cmp-means, is-eq, is-gt, is-lt, longer, ≺-asym, ≺-strip, ≺-trans, ≺-under, _≺_}
 use Rattle.words.proofs.Cut.{Cut, levi}
 use Rattle.words.proofs.FirstDifference.{More, ext, ext-left, same-length, ≺-cases, _≪_}
 
+-- w is below each of its rotations but the whole, written by its two parts
 abbrev pub ByRotations : List ℕ → Type 0
 ByRotations w = (a : ℕ) (x : List ℕ) (b : ℕ) (y : List ℕ) → w ≡ (a ∷ x) ++ (b ∷ y) → w ≺ ((b ∷ y) ++ (a ∷ x))
 
@@ -67,10 +65,6 @@ suffix-differs {w} l x y e h k = go (≺-cases (suffix l x y e h k))
     go : More w y ⊎ (_≪_ w y) → _≪_ w y
     go (inl m) = absurd (omega (arith, simp length-append at (ap length e), simp length-append at (ap length (m .is))))
     go (inr d) = d
-
--- L2: no proper non-empty beginning is also an end
-pub no-border : {w : List ℕ} → Lyndon w → (s x z : List ℕ) → w ≡ s ++ z → w ≡ x ++ s → 0 < length s → 0 < length x → ⊥
-no-border {w} l s x z e f h k = not-both (suffix l x s f k h) (rw (← e) at (≼-append s z))
 
 -- ---- L3: u ≺ v, both Lyndon: u v is a Lyndon word, below v
 

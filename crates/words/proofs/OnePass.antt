@@ -8,7 +8,7 @@ use lib.Dec.{eqb}
 use lib.ListN.{length, length-append}
 use borrow.Author.Tests.{ne-eqb}
 use Rattle.words.specs.Rotation.{necklacePeriod}
-use Rattle.words.proofs.Booleans.{never}
+use Rattle.words.proofs.Booleans.{clash, never}
 use Rattle.words.proofs.Lyndon.{lyndon-size}
 use Rattle.words.proofs.OnePeriod.{one-period, pre-of-power, scan-nothing}
 use Rattle.words.proofs.Periods.{lyndon-test, period-of}
@@ -54,7 +54,7 @@ found (b ∷ bs) zero h k e = absurd (k refl)
 found (b ∷ bs) (suc p) h k e = go (rw (← e) at (scan-is b bs)) refl
   where
     go : {o : Scan} → Scanned (b ∷ bs) o → o ≡ periodic (suc p) → Pre (b ∷ bs) (suc p)
-    go (no-necklace f) q = absurd (let z : _≡_ {A = ℕ} 0 1 = cc in omega arith)
+    go (no-necklace f) q = clash (cc)
     go (has-period {p = r} q) e = let z : r ≡ suc p = cc in rw z at q
 
 module _ (w : List ℕ) (p : ℕ) (h : 0 < length w) (k : p ≡ 0 → ⊥) (e : coded p ≡ scan w) where

@@ -2,7 +2,7 @@
 use mathlib.Core.List.{List, append-assoc, append-nil, _++_, _∷_}
 use mathlib.Core.Logic.{inl, inr, _↔_, _⊎_}
 use mathlib.Core.Path.{ap, refl, subst, sym, _∙_, _≡_}
-use Prim.Native.Nat.{suc, zero, ℕ, _%_, _+_, _<_, _≤_}
+use Prim.Native.Nat.{suc, zero, ℕ, _+_, _<_, _≤_}
 use native.Mathlib.Nat.{eq-or-lt-of-le}
 use native.Mathlib.Omega.{arith}
 use lib.ListN.{length, length-append}
@@ -14,12 +14,12 @@ use Rattle.words.proofs.Lyndon.{Lyndon, lyndon-size, suffix}
 use Rattle.words.proofs.Power.{power, power-snoc}
 use Rattle.words.proofs.PowerOrder.{Necklace, power-necklace}
 use Rattle.words.proofs.Prefixes.{Pre}
-use Rattle.words.proofs.Repetition.{period-divides, whole-power}
 use Rattle.words.proofs.ScanMeaning.{Scanned, has-period, no-necklace, scan-is}
 use Rattle.words.specs.Scan.{Scan, barred, periodic, scan}
+use Rattle.words.proofs.Booleans.{clash}
 
 periodic≢barred : {p : ℕ} → periodic p ≡ barred → ⊥
-periodic≢barred e = let z : _≡_ {A = ℕ} 0 1 = cc in omega arith
+periodic≢barred e = clash (cc)
 
 -- a begins a power of the Lyndon word u
 pub pre-of-power : {u : List ℕ} → Lyndon u → (k : ℕ) (a z : List ℕ) → power k u ≡ a ++ z → length u ≤ length a → Pre a (length u)
@@ -71,9 +71,6 @@ scan-nothing b bs = go (scan-is b bs)
     go : {o : Scan} → Scanned (b ∷ bs) o → (o ≡ barred) ↔ ((r : List ℕ) → Necklace ((b ∷ bs) ++ r) → ⊥)
     go (no-necklace f) = (λ e. f, λ g. refl)
     go (has-period q) = (λ e. absurd (periodic≢barred e), λ g. absurd (let t = pre-begins q in g (t .0) (t .1)))
-
-pub necklace-divides : {x : List ℕ} {p : ℕ} → Pre x p → Necklace x ↔ (length x % p ≡ 0)
-necklace-divides q = (period-divides q, whole-power q)
 
 -- ---- there is one period only: a longer Lyndon word at the front would have a border
 

@@ -1,6 +1,4 @@
 -- Powers of a row. Rows that commute are powers of one row.
-
--- u repeated k times
 use mathlib.Core.List.{List, [], append-assoc, append-nil, _++_, _∷_}
 use mathlib.Core.Logic.{inl, inr, _⊎_}
 use mathlib.Core.Path.{ap, refl, sym, _∙_, _≡_}
@@ -11,6 +9,7 @@ use lib.ListN.{length, length-append}
 use Rattle.words.proofs.Cut.{Cut, levi}
 use Rattle.words.proofs.Induction.{strong}
 
+-- u repeated k times
 unfoldable pub power : ℕ → List ℕ → List ℕ
 power zero u = []
 power (suc k) u = u ++ power k u

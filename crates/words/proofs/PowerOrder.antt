@@ -1,20 +1,18 @@
--- Necklaces by their parts; powers and the order (O4, L4, L5).
-
--- w is at or below each of its rotations, written by its two parts
+-- Necklaces by their parts; powers and the order.
 use mathlib.Core.List.{List, [], append-assoc, append-nil, nil≢cons, _++_, _∷_}
 use mathlib.Core.Logic.{inl, inr, _⊎_}
 use mathlib.Core.Path.{ap, refl, sym, _∙_, _≡_}
-use Prim.Native.Nat.{suc, zero, ℕ, _*_, _+_, _-_, _≤_}
+use Prim.Native.Nat.{suc, zero, ℕ, _+_}
 use native.Mathlib.Omega.{arith}
-use lib.ListN.{drop, length, length-append, length-drop, take, take-append-drop}
-use lib.Seq.{take-append-add, take-append-le}
-use Rattle.words.proofs.AtMost.{equal, lower, ≼-ext, ≼-take, _≼_}
+use lib.ListN.{length, length-append}
+use Rattle.words.proofs.AtMost.{equal, lower, ≼-ext, _≼_}
 use Rattle.words.proofs.Below.{_≺_}
 use Rattle.words.proofs.Cut.{Cut, levi}
 use Rattle.words.proofs.FirstDifference.{ext, same-length}
 use Rattle.words.proofs.Lyndon.{Lyndon, suffixes→rotations}
-use Rattle.words.proofs.Power.{power, power-add, power-length, power-slide}
+use Rattle.words.proofs.Power.{power, power-add, power-slide}
 
+-- w is at or below each of its rotations, written by its two parts
 abbrev pub Necklace : List ℕ → Type 0
 Necklace w = (x y : List ℕ) → w ≡ x ++ y → w ≼ (y ++ x)
 
@@ -23,7 +21,7 @@ lyndon→necklace l [] y e = equal (e ∙ sym (append-nil y))
 lyndon→necklace l (a ∷ x) [] e = equal (e ∙ append-nil (a ∷ x))
 lyndon→necklace {w} l (a ∷ x) (b ∷ y) e = lower (suffixes→rotations w (l .least) a x b y e)
 
--- ---- O4: powers keep the order of rows of one length, and so do their equally long beginnings
+-- ---- O4: powers keep the order of rows of one length
 
 pub power-mono : (k : ℕ) {u v : List ℕ} → length u ≡ length v → u ≼ v → power k u ≼ power k v
 unfolding power
@@ -33,21 +31,6 @@ power-mono (suc k) e h = ≼-ext e h (power-mono k e h)
 pub power-strict : (k : ℕ) {u v : List ℕ} → length u ≡ length v → u ≺ v → power (suc k) u ≺ power (suc k) v
 unfolding power
 power-strict k {u} {v} e h = ext (same-length h e) (power k u) (power k v)
-
-same-size : (k : ℕ) (u v : List ℕ) → length u ≡ length v → length (power k u) ≡ length (power k v)
-same-size k u v e = power-length k u ∙ ap (λ l. k * l) e ∙ sym (power-length k v)
-
-pub power-take : (k m : ℕ) {u v : List ℕ} → length u ≡ length v → u ≼ v → take m (power k u) ≼ take m (power k v)
-power-take k m {u} {v} e h = ≼-take m (same-size k u v e) (power-mono k e h)
-
--- beginnings that reach past the first difference stay strictly in order
-pub power-take-strict : (k m : ℕ) {u v : List ℕ} → length u ≡ length v → u ≺ v → length u ≤ m → take m (power (suc k) u) ≺ take m (power (suc k) v)
-unfolding power
-power-take-strict k m {u} {v} e h l =
-    rw (past u (omega arith), past v (omega arith)) (ext (same-length h e) (take (m - length u) (power k u)) (take (m - length v) (power k v)))
-  where
-    past : (w : List ℕ) → length w ≤ m → take m (w ++ power k w) ≡ w ++ take (m - length w) (power k w)
-    past w s = let size : m ≡ length w + (m - length w) = omega arith in ap (λ n. take n (w ++ power k w)) size ∙ take-append-add w (power k w) (m - length w)
 
 -- ---- rotations of a power
 
@@ -101,14 +84,3 @@ power-necklace {u} l k x (b ∷ y) e =
     let c = cut-power k u x b y e in
     let same : length u ≡ length (c .q ++ c .p) = omega (arith, simp length-append at (ap length (c .whole)), length-append (c .q) (c .p)) in
     rw (rotate-power c) (power-mono k same (lyndon→necklace l (c .p) (c .q) (c .whole)))
-
--- ---- L4: each shift of a power of a Lyndon word is at or above it, on every equally long beginning
-
-pub necklace-shift : {w : List ℕ} → Necklace w → (x y : List ℕ) → w ≡ x ++ y → (m : ℕ) → m ≤ length y → take m w ≼ take m y
-necklace-shift {w} s x y e m h =
-    let same : length w ≡ length (y ++ x) = omega (arith, simp length-append at (ap length e), length-append y x) in
-    rw (take-append-le m y x h) at (≼-take m same (s x y e))
-
-pub power-shift : {u : List ℕ} → Lyndon u → (k i m : ℕ) → i + m ≤ k * length u → take m (power k u) ≼ take m (drop i (power k u))
-power-shift {u} l k i m h =
-    necklace-shift (power-necklace l k) (take i (power k u)) (drop i (power k u)) (sym (take-append-drop i (power k u))) m (simp length-drop (omega (arith, power-length k u)))

@@ -1,6 +1,4 @@
 -- Prefixes of the powers of a Lyndon word, one symbol longer: P1, P2, P3.
-
--- The first p symbols of a are a Lyndon word u, and a begins u u u ..: behind its first u, it begins as it does at the front.
 use mathlib.Core.List.{List, [], append-assoc, append-nil, _++_, _∷_}
 use mathlib.Core.Logic.{inl, inr, _⊎_}
 use mathlib.Core.Path.{ap, refl, subst, sym, _∙_, _≡_}
@@ -17,6 +15,7 @@ use Rattle.words.proofs.Lyndon.{BySuffixes, Lyndon, join, lyndon-of, ly
 use Rattle.words.proofs.PowerOrder.{Necklace}
 use Rattle.words.specs.Scan.{next, _▹_}
 
+-- The first p symbols of a are a Lyndon word u, and a begins u u u ..: behind its first u, it begins as it does at the front.
 pub record Pre (a : List ℕ) (p : ℕ) : Type 0 where
   pub u : List ℕ
   pub s : List ℕ

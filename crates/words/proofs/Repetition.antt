@@ -1,6 +1,4 @@
 -- A row of a period is a necklace exactly if the period divides its length (P5).
-
--- u s is s z, and |u| divides |s|
 use mathlib.Core.List.{List, [], _++_, _∷_}
 use mathlib.Core.Logic.{inl, inr, _⊎_}
 use mathlib.Core.Path.{ap, refl, subst, sym, _∙_, _≡_}
@@ -18,6 +16,7 @@ use Rattle.words.proofs.Power.{power, power-length}
 use Rattle.words.proofs.PowerOrder.{Necklace, power-necklace}
 use Rattle.words.proofs.Prefixes.{Pre}
 
+-- u s is s z, and |u| divides |s|
 pub power-of : (k : ℕ) (u s z : List ℕ) → u ++ s ≡ s ++ z → length s ≡ k * length u → s ≡ power k u
 unfolding power
 power-of zero u [] z e h = refl

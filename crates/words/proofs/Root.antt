@@ -1,6 +1,4 @@
 -- Every necklace is a power of a Lyndon word, whose length is the period (L6).
-
--- ---- a necklace is a Lyndon word, or has two parts that commute
 use mathlib.Core.Bool.{Bool, false, true, true≢false}
 use mathlib.Core.List.{List, [], append-assoc, append-nil, nil≢cons, _++_, _∷_}
 use mathlib.Core.Logic.{inl, inr, _⊎_}
@@ -21,6 +19,8 @@ use Rattle.words.proofs.PowerOrder.{Necklace, power-strict}
 use Rattle.words.proofs.Rotations.{cons-parts, isLyndon→, rotation-parts, rotation-seam}
 use Rattle.words.specs.Order.{lt, same}
 use Rattle.words.specs.Rotation.{isLyndon, period, rotation}
+
+-- ---- a necklace is a Lyndon word, or has two parts that commute
 
 record Halves (w : List ℕ) : Type 0 where
   a : ℕ

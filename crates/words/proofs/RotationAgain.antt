@@ -47,9 +47,6 @@ rotated w i j hi hj = go (le-or (length w) (j + i))
     go (inl h) = record { by = j + i - length w; inside = omega arith; is = rotation-past w i j (omega arith) (omega arith) h }
     go (inr h) = record { by = j + i; inside = h; is = rotation-again w i j (omega arith) }
 
-pub rotation-self : (w : List ℕ) → 0 < length w → IsRotation w w
-rotation-self w h = record { by = 0; inside = h; is = sym (rotation-zero w) }
-
 pub rotation-trans : {u v w : List ℕ} → IsRotation u v → IsRotation v w → IsRotation u w
 rotation-trans {u} {v} {w} a b =
     let l : length v ≡ length u = ap length (a .is) ∙ rotation-length (a .by) u in

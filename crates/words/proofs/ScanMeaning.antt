@@ -1,16 +1,16 @@
 -- P4: one pass finds that a row begins no necklace, or its period.
-
--- what each answer means
 use mathlib.Core.List.{List, [], append-assoc, append-nil, _++_, _∷_}
-use mathlib.Core.Path.{subst, _≡_}
-use Prim.Native.Nat.{Ordering, suc, ℕ, _<_}
+use mathlib.Core.Path.{subst, sym, _≡_}
+use Prim.Native.Nat.{Ordering, suc, zero, ℕ, _<_}
 use native.Mathlib.Omega.{arith}
 use lib.ListN.{length, length-append}
 use Rattle.words.proofs.Below.{Means, compare-means, is-eq, is-gt, is-lt}
 use Rattle.words.proofs.PowerOrder.{Necklace}
 use Rattle.words.proofs.Prefixes.{Pre, falls, goes-on, leaves, pre-lyndon, pre-one}
-use Rattle.words.specs.Scan.{Scan, barred, next, onward, periodic, scan, scanFrom, _▹_}
+use Rattle.words.specs.Scan.{Scan, barred, coded, next, onward, periodic, scan, scanFrom, _▹_}
+use Rattle.words.proofs.Booleans.{clash}
 
+-- what each answer means
 pub data Scanned (a : List ℕ) : Scan → Type 0 where
   no-necklace : ((r : List ℕ) → Necklace (a ++ r) → ⊥) → Scanned a barred
   has-period : {p : ℕ} → Pre a p → Scanned a (periodic p)
@@ -44,3 +44,13 @@ scan-from (b ∷ bs) a p q = one-symbol a p q b bs (scan-from bs (a ▹ b) p) (s
 pub scan-is : (b : ℕ) (bs : List ℕ) → Scanned (b ∷ bs) (scan (b ∷ bs))
 unfolding scan
 scan-is b bs = scan-from bs (b ∷ []) 1 (pre-one b)
+
+-- the period as a number
+pub pre-of : (b : List ℕ) (p : ℕ) → 0 < length b → 0 < p → coded p ≡ scan b → Pre b p
+pre-of [] p h k e = absurd (omega arith)
+pre-of (c ∷ b) zero h k e = absurd (omega arith)
+pre-of (c ∷ b) (suc p) h k e = go (scan-is c b) (sym e)
+  where
+    go : {o : Scan} → Scanned (c ∷ b) o → o ≡ periodic (suc p) → Pre (c ∷ b) (suc p)
+    go (no-necklace f) f′ = clash (cc)
+    go (has-period {p = q} r) f′ = let z : q ≡ suc p = cc in subst (Pre (c ∷ b)) z r

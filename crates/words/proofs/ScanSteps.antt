@@ -1,6 +1,4 @@
 -- One step of the pass over a row, for loops.
-
--- ---- three-way comparison of numbers
 use mathlib.Core.List.{List, [], _∷_}
 use mathlib.Core.Path.{ap, refl, subst, sym, _∙_, _≡_}
 use Prim.Native.Nat.{Ordering, Ordering·gt, Ordering·lt, compare, suc, zero, ℕ, _+_, _-_, _<_, _≤_}
@@ -11,6 +9,8 @@ use lib.ListN.{drop, drop-of-length-le, getD, getD-replicate, length, take}
 use lib.Seq.{drop-cons, getD-take, length-take-le, take-suc}
 use Rattle.words.proofs.Below.{Means, compare-means, compare-self, is-eq, is-gt, is-lt}
 use Rattle.words.specs.Scan.{Leading, barred, coded, next, onward, scan, scanFrom}
+
+-- ---- three-way comparison of numbers
 
 pub compare-lt : {x y : ℕ} → x < y → compare x y ≡ Ordering·lt
 compare-lt {x} {y} h = go (compare-means x y)

@@ -7,7 +7,7 @@ use Prim.Native.Nat.{ℕ, suc, _≤_, _<_}
 use lib.ListN.{length, getD}
 use Rattle.words.specs.Order.{le, lt}
 use Rattle.words.specs.Rotation.{isLyndon, isNecklace, leastIndex, leastRotation, period, rotation}
-use Rattle.words.specs.Symbols.{firstWrong}
+use Rattle.words.specs.Symbols.{Within, firstWrong}
 
 -- ---- turns
 
@@ -36,10 +36,6 @@ SmallestTurn =
     → (leastIndex w < length w) × (rotation (leastIndex w) w ≡ leastRotation w) × ((j : ℕ) → j < leastIndex w → rotation j w ≡ leastRotation w → ⊥)
 
 -- ---- symbols
-
--- each symbol is one of an alphabet of k
-abbrev pub Within : ℕ → List ℕ → Type 0
-Within k w = (i : ℕ) → i < length w → getD w i 0 < k
 
 -- p is the place of the first symbol that is none of an alphabet of k; before it stand so many
 pub record FirstOther (k : ℕ) (w : List ℕ) (p : ℕ) : Type 0 where

@@ -4,5 +4,6 @@ pub mod Tests
 pub mod Falling
 pub mod Rotation
 pub mod Symbols
+pub mod Buffers
 pub mod Scan
 pub mod Claims

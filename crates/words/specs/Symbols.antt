@@ -1,9 +1,18 @@
--- The symbols of a row: zeros, their sum, and the first that is none of an alphabet.
-use mathlib.Core.Bool.{cond}
+-- The symbols of a row: an alphabet, zeros, their sum, and the first that is none of an alphabet.
+use mathlib.Core.Bool.{Bool, cond, true, _&&_}
 use mathlib.Core.List.{List, [], _∷_}
-use Prim.Native.Nat.{ℕ, zero, suc, _+_}
-use lib.ListN.{replicate}
-use lib.Dec.{ltb}
+use Prim.Native.Nat.{ℕ, zero, suc, _+_, _<_}
+use lib.ListN.{getD, length, replicate}
+use lib.Dec.{leb, ltb}
+
+-- each symbol is one of an alphabet of k
+abbrev pub Within : ℕ → List ℕ → Type 0
+Within k w = (i : ℕ) → i < length w → getD w i 0 < k
+
+-- every symbol is at most b, as a test
+unfoldable pub allUpTo : ℕ → List ℕ → Bool
+allUpTo b [] = true
+allUpTo b (x ∷ xs) = leb x b && allUpTo b xs
 
 -- n zeros, n ones
 abbrev pub zeros : ℕ → List ℕ

@@ -1,8 +1,8 @@
 // Helpers for other crates, over rows of any alphabet.
 ghost use mathlib.Core.Path.{_≡_};
-ghost use mathlib.Core.List.{_++_};
 ghost use Prim.Native.Nat.{_-_, _≤_, _<_};
 ghost use lib.ListN.{length};
+ghost use Rattle.words.specs.Buffers.{fronted};
 ghost use Rattle.words.specs.Rotation.{necklacePeriod};
 ghost use Rattle.words.specs.Scan.{Leading, coded, scan};
 ghost use Rattle.words.specs.Symbols.{zeros};
@@ -67,16 +67,14 @@ pub fn necklace_period(row: &[u8]) -> usize
     scanned_period(row, p)
 }
 
-// A row and zeros behind it.
-pub fn padded(a: &[u8]) -> [u8; 64]
-    requires { ⌜ length (now a) ≤ 64 ⌝ }
-    ensures { λ r. ⌜ r ≡ now (a .entry) ++ zeros (64 - length (now (a .entry))) ⌝ }
+// Writes a row to the front of a buffer that has room for it.
+pub fn write_front(row: &[u8], out: &mut [u8])
+    requires { ⌜ length (now row) ≤ length (now out) ⌝ }
+    ensures { λ _. ⌜ now (out .exit) ≡ fronted (now (row .entry)) (now (out .entry)) ⌝ }
 {
-    let mut row = [0u8; 64];
     let mut i: usize = 0;
-    while i < a.len() {
-        row[i] = a[i];
+    while i < row.len() {
+        out[i] = row[i];
         i += 1;
     }
-    row
 }

@@ -6,7 +6,6 @@ use native.Mathlib.Omega.{arith}
 use lib.Arith.{lt-of-le-ne}
 use borrow.Author.Needs.{needs}
 use Rattle.density.proofs.FilledRow.{ones-row, zeros-row}
-use Rattle.words.proofs.Prefixes.{Pre}
 use borrow.Fn.Kinds.{In}
 use borrow.Fn.PlainCycle.{Measures, is, falls, and}
 use Rattle.density.proofs.few_holes.Reads as few-holes

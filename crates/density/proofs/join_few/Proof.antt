@@ -10,6 +10,7 @@ use borrow.Author.Needs.{needs}
 use Rattle.density.proofs.FewBlocks.{FewAt, few-ends, few-start, few-turn, least-gap}
 use Rattle.density.proofs.FilledRow.{Filled, few-filled, filled-none, filled-whole}
 use Rattle.density.specs.Balanced.{balanced}
+use Rattle.refusal.specs.Verdicts.{mostStations}
 use Rattle.density.proofs.join_few.Statement.{statement}
 use Rattle.density.proofs.join_few.Tie as tie
 
@@ -32,7 +33,7 @@ record Turn (n d b : ℕ) (row : List ℕ) (q k : ℕ) : Type 0 where
   room : q ≤ n
   next : Inv n d (set row (q - 1) 1) q (k + 1)
 
-on : (n d : ℕ) (w row : List ℕ) (p k : ℕ) → n ≤ 64 → 0 < d → 2 * d ≤ n → take d w ≡ balanced d (d - n % d) → k < d → Inv n d row p k → Turn n d (getD w k 0) row (p + n / d + 1 - getD w k 0) k
+on : (n d : ℕ) (w row : List ℕ) (p k : ℕ) → n ≤ mostStations → 0 < d → 2 * d ≤ n → take d w ≡ balanced d (d - n % d) → k < d → Inv n d row p k → Turn n d (getD w k 0) row (p + n / d + 1 - getD w k 0) k
 on n d w row p k l z h e k< i =
     let t = few-turn n d z h p k w e k< (i .place) in
     let b = t .1 in

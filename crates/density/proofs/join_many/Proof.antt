@@ -9,6 +9,7 @@ use borrow.Author.Needs.{needs}
 use Rattle.density.proofs.FilledRow.{Filled, filled-none, filled-whole, many-filled}
 use Rattle.density.proofs.ManyBlocks.{ManyAt, least-run, many-ends, many-start, many-turn}
 use Rattle.density.specs.Balanced.{balanced}
+use Rattle.refusal.specs.Verdicts.{mostStations}
 use Rattle.density.proofs.join_many.Statement.{statement}
 use Rattle.density.proofs.join_many.Tie as tie
 
@@ -31,7 +32,7 @@ record Turn (n d z b : ℕ) (row : List ℕ) (p q k : ℕ) : Type 0 where
   room : q ≤ n
   next : Inv n d z (set row p 0) q (k + 1)
 
-on : (n d z : ℕ) (w row : List ℕ) (p k : ℕ) → n ≤ 64 → 0 < z → d + z ≡ n → 2 * z ≤ n → take z w ≡ balanced z (n % z) → k < z → Inv n d z row p k → Turn n d z (getD w k 0) row p (p + n / z + getD w k 0) k
+on : (n d z : ℕ) (w row : List ℕ) (p k : ℕ) → n ≤ mostStations → 0 < z → d + z ≡ n → 2 * z ≤ n → take z w ≡ balanced z (n % z) → k < z → Inv n d z row p k → Turn n d z (getD w k 0) row p (p + n / z + getD w k 0) k
 on n d z w row p k l zp whole h e k< i =
     let t = many-turn n d z zp whole h p k w e k< (i .place) in
     let b = t .1 in

@@ -5,8 +5,9 @@ use native.Mathlib.Omega.{arith}
 use lib.ListN.{length, take}
 use borrow.Author.Needs.{needs}
 use borrow.Author.Tests.{not-false, not-true}
-use Rattle.density.proofs.TopVerdicts.{kept, no-stations, row-length, stations-range, too-many-holes, too-short, written}
-use Rattle.refusal.specs.Verdicts.{areStations, refused}
+use Rattle.density.proofs.TopVerdicts.{kept, no-stations, row-length, too-many-holes, too-short, written}
+use Rattle.refusal.proofs.Stations.{stations→}
+use Rattle.refusal.specs.Verdicts.{areStations}
 use Rattle.refusal.specs.declared.Refusal.the-variants.{Buffer, Holes, Stations}
 use Rattle.density.proofs.largest_necklace.Statement.{statement}
 use Rattle.density.proofs.largest_necklace.Tie as tie
@@ -18,23 +19,23 @@ stations c = sym (c .before .are-stations .ensures) ∙ not-false (c .before .ar
 returns : tie.Need-returns
 returns c =
     let s = c .before .before .before .args in
-    kept (refused Stations) (s .n) (s .d) (s .out .now) (no-stations (s .n) (s .d) (length (s .out .now)) (sym (c .before .are-stations .ensures) ∙ not-true (c .before .are-stations .result) (c .if1 .taken)))
+    kept Stations (s .n) (s .d) (s .out .now) (no-stations (s .n) (s .d) (length (s .out .now)) (sym (c .before .are-stations .ensures) ∙ not-true (c .before .are-stations .result) (c .if1 .taken)))
 
 returns-2 : tie.Need-returns-2
 returns-2 c =
     let s = c .before .before .before .before .args in
-    kept (refused Holes) (s .n) (s .d) (s .out .now) (too-many-holes (s .n) (s .d) (length (s .out .now)) (stations (c .before)) (c .if2 .taken))
+    kept Holes (s .n) (s .d) (s .out .now) (too-many-holes (s .n) (s .d) (length (s .out .now)) (stations (c .before)) (c .if2 .taken))
 
 returns-3 : tie.Need-returns-3
 returns-3 c =
     let s = c .before .before .before .before .before .args in
-    kept (refused Buffer) (s .n) (s .d) (s .out .now) (too-short (s .n) (s .d) (length (s .out .now)) (stations (c .before .before)) (c .before .if2 .left) (c .if3 .taken))
+    kept Buffer (s .n) (s .d) (s .out .now) (too-short (s .n) (s .d) (length (s .out .now)) (stations (c .before .before)) (c .before .if2 .left) (c .if3 .taken))
 
 top-row-requires : tie.Need-top-row-requires
-top-row-requires c κs = omega (arith, stations-range _ (stations (c .before .before)))
+top-row-requires c κs = omega (arith, stations→ _ (stations (c .before .before)))
 
 array-share-prefix-row : tie.Need-array-share-prefix-row
-array-share-prefix-row c = omega (arith, stations-range _ (stations (c .before .before .before)))
+array-share-prefix-row c = omega (arith, stations→ _ (stations (c .before .before .before)))
 
 -- the row has n symbols
 n-symbols : (c : tie.After-top-row) → length (take (c .before .before .before .before .before .before .args .n) (c .top-row .result)) ≡ c .before .before .before .before .before .before .args .n

@@ -10,8 +10,9 @@ use borrow.Author.Tests.{le-leb, lt-leb, not-false, not-true}
 use Rattle.drawer_text.proofs.Inputs.{all-read, from-input, limit-length, limit-put, misnamed, no-values, over-long, too-many}
 use Rattle.drawer_text.proofs.ValueLines.{line-inside}
 use Rattle.text.specs.Symbols.{symbolOf}
-use Rattle.drawer_text.specs.Input.{asked, mostBytes, names, readDrawer, valuesAt}
+use Rattle.drawer_text.specs.Input.{mostBytes, names, readDrawer, valuesAt}
 use Rattle.drawer_text.specs.declared.Values.the-variants.{Line}
+use Rattle.refusal.specs.Outcomes.{given}
 use Rattle.words.specs.Tests.{isPrefix}
 use Rattle.drawer_text.proofs.read_drawer.Statement.{statement}
 use Rattle.drawer_text.proofs.read_drawer.Tie as tie
@@ -58,7 +59,7 @@ returns-4 c =
     from-input (a .text .now) (a .limit .now) _ (too-many (a .text .now) (l .head .few) (l .head .named) _ _ _ _ _ (l .line) (c .if3 .taken)) _ _ refl refl
 
 -- what was read, of a text with nothing behind the line
-read : (c : tie.Else3) → let g = c .before .before .stations .given .0 in readDrawer (c .before .before .before .before .before .before .before .before .before .before .before .args .text .now) ≡ asked (g .0) (g .1 .0) (g .1 .1 .0) (map symbolOf (take (g .1 .1 .1 .1 .0) (drop (g .1 .1 .1 .0) (c .before .before .before .before .before .before .before .before .before .before .before .args .text .now))))
+read : (c : tie.Else3) → let g = c .before .before .stations .given .0 in let s = c .before .before .before .before .before .before .before .before .before .before .before .args .text .now in readDrawer s ≡ given (record { stations = g .0; holes = g .1 .0; kind = g .1 .1 .0; limit = map symbolOf (take (g .1 .1 .1 .1 .0) (drop (g .1 .1 .1 .0) s)) })
 read c =
     let l = lined (c .before) in
     all-read (c .before .before .before .before .before .before .before .before .before .before .before .args .text .now) (l .head .few) (l .head .named) _ _ _ _ _ (l .line) (c .if3 .left)

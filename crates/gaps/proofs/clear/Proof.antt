@@ -5,7 +5,6 @@ use Prim.Native.Nat.{ℕ, _-_, _≤_}
 use native.Mathlib.Omega.{arith}
 use lib.ListN.{getD-replicate, length, length-set}
 use borrow.Author.Needs.{needs}
-use Rattle.gaps.specs.Gaps.{rowOfGaps}
 use Rattle.words.proofs.Front.{Front, front-all, front-turn}
 use Rattle.words.proofs.Zeros.{zeros-length}
 use Rattle.words.specs.Symbols.{zeros}
@@ -35,12 +34,11 @@ loop-again c =
     }
 
 returns : tie.Need-returns Inv-loop μ-loop
-unfolding rowOfGaps
 returns c =
     let l = c .before .loop in
     let n = c .before .before .args .n in
     let O = c .before .before .args .out .now in
-    rw zeros-length at (front-all (zeros n) O (l .out) (l .i) (omega (arith, zeros-length n)) (l .inv .front))
+    front-all (zeros n) O (l .out) (l .i) (omega (arith, zeros-length n)) (l .inv .front)
 
 pub clear-spec : {M : Type 1} → statement M
 clear-spec =

@@ -9,9 +9,8 @@ use borrow.Author.Needs.{needs}
 use borrow.Author.Tests.{not-false, not-true}
 use Rattle.density.specs.Density.{density}
 use Rattle.gaps.proofs.Refused.{gaps-holes, list-accepted, list-buffer, list-last, list-stations, list-symbol}
-use Rattle.gaps.specs.Answers.{listNumbers}
-use Rattle.gaps.specs.declared.ListAnswer.the-variants.{Listed}
 use Rattle.refusal.proofs.Stations.{stations→}
+use Rattle.refusal.specs.Outcomes.{given}
 use Rattle.refusal.specs.Verdicts.{areStations}
 use Rattle.words.specs.Symbols.{firstWrong}
 use Rattle.gaps.proofs.gaps_of_row.Statement.{statement}
@@ -36,7 +35,7 @@ checked c =
 returns : tie.Need-returns
 returns c =
     let s = c .before .before .before .before in
-    rw (list-stations (s .args .row .now) (length (s .args .out .now)) (sym (c .before .are-stations .ensures) ∙ not-true _ (c .if1 .taken))) (refl, (refl, refl))
+    rw (list-stations (s .args .row .now) (length (s .args .out .now)) (sym (c .before .are-stations .ensures) ∙ not-true _ (c .if1 .taken))) (refl, refl)
 
 returns-2 : tie.Need-returns-2
 returns-2 c =
@@ -44,7 +43,7 @@ returns-2 c =
     let s = b .before .before .before .before in
     let w = s .args .row .now in
     let e = c .before .first-wrong .ensures in
-    rw (e, list-symbol w (length (s .args .out .now)) (sym (b .before .are-stations .ensures) ∙ not-false _ (b .if1 .left)) (λ z. c .if2 .taken (e ∙ z))) (refl, (refl, refl))
+    rw (e, list-symbol w (length (s .args .out .now)) (sym (b .before .are-stations .ensures) ∙ not-false _ (b .if1 .left)) (λ z. c .if2 .taken (e ∙ z))) (refl, refl)
 
 has-gap-list-requires : tie.Need-has-gap-list-requires
 has-gap-list-requires c κs = let k = checked c in (stations→ _ (k .stations) .some, k .count)
@@ -53,7 +52,7 @@ returns-3 : tie.Need-returns-3
 returns-3 c =
     let k = checked (c .before .before) in
     let s = c .before .before .before .before .before .before .before .before .before in
-    rw (list-last (s .args .row .now) (length (s .args .out .now)) (k .stations) (k .symbols) (sym (c .before .has-gap-list .ensures) ∙ not-true _ (c .if3 .taken))) (refl, (refl, refl))
+    rw (list-last (s .args .row .now) (length (s .args .out .now)) (k .stations) (k .symbols) (sym (c .before .has-gap-list .ensures) ∙ not-true _ (c .if3 .taken))) (refl, refl)
 
 returns-4 : tie.Need-returns-4
 returns-4 c =
@@ -61,7 +60,7 @@ returns-4 c =
     let k = checked (g .before) in
     let s = g .before .before .before .before .before .before .before .before in
     let w = s .args .row .now in
-    rw (list-buffer w (length (s .args .out .now)) (k .stations) (k .symbols) (sym (g .has-gap-list .ensures) ∙ not-false _ (c .before .if3 .left)) (omega (arith, gaps-holes w (k .symbols)))) (refl, (refl, refl))
+    rw (list-buffer w (length (s .args .out .now)) (k .stations) (k .symbols) (sym (g .has-gap-list .ensures) ∙ not-false _ (c .before .if3 .left)) (omega (arith, gaps-holes w (k .symbols)))) (refl, refl)
 
 write-gaps-requires : tie.Need-write-gaps-requires
 write-gaps-requires c κs =
@@ -77,7 +76,7 @@ returns-5 c =
     let s = g .before .before .before .before .before .before .before .before in
     let w = s .args .row .now in
     let r = c .before .before .write-gaps .ensures in
-    rw (list-accepted w (length (s .args .out .now)) (k .stations) (k .symbols) (sym (g .has-gap-list .ensures) ∙ not-false _ (e .before .if3 .left)) (omega (arith, gaps-holes w (k .symbols)))) (ap Listed (r .0), (ap (λ k. listNumbers (Listed k)) (r .0), r .1))
+    rw (list-accepted w (length (s .args .out .now)) (k .stations) (k .symbols) (sym (g .has-gap-list .ensures) ∙ not-false _ (e .before .if3 .left)) (omega (arith, gaps-holes w (k .symbols)))) (ap given (r .0), r .1)
 
 pub gaps-of-row-spec : {M : Type 1} → statement M
 gaps-of-row-spec =

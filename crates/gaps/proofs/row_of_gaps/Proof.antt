@@ -11,13 +11,13 @@ returns : tie.Need-returns
 returns c =
     let s = c .before .before .before .before in
     let v = row-stations (s .args .n) (s .args .gaps .now) (length (s .args .out .now)) (sym (c .before .are-stations .ensures) ∙ not-true _ (c .if1 .taken)) in
-    rw v (refl, (refl, refl))
+    rw v (refl, refl)
 
 returns-2 : tie.Need-returns-2
 returns-2 c =
     let s = c .before .before .before .before .before in
     let a = sym (c .before .before .are-stations .ensures) ∙ not-false _ (c .before .if1 .left) in
-    rw (row-holes (s .args .n) (s .args .gaps .now) (length (s .args .out .now)) a (c .if2 .taken)) (refl, (refl, refl))
+    rw (row-holes (s .args .n) (s .args .gaps .now) (length (s .args .out .now)) a (c .if2 .taken)) (refl, refl)
 
 returns-3 : tie.Need-returns-3
 returns-3 c =
@@ -25,7 +25,7 @@ returns-3 c =
     let s = b .before .before .before .before in
     let a = sym (b .before .are-stations .ensures) ∙ not-false _ (b .if1 .left) in
     let f = sym (c .before .gaps-fill .ensures) ∙ not-true _ (c .if3 .taken) in
-    rw (row-sum (s .args .n) (s .args .gaps .now) (length (s .args .out .now)) a (c .before .before .if2 .left) f) (refl, (refl, refl))
+    rw (row-sum (s .args .n) (s .args .gaps .now) (length (s .args .out .now)) a (c .before .before .if2 .left) f) (refl, refl)
 
 returns-4 : tie.Need-returns-4
 returns-4 c =
@@ -34,7 +34,7 @@ returns-4 c =
     let s = b .before .before .before .before in
     let a = sym (b .before .are-stations .ensures) ∙ not-false _ (b .if1 .left) in
     let f = sym (d .gaps-fill .ensures) ∙ not-false _ (c .before .if3 .left) in
-    rw (row-buffer (s .args .n) (s .args .gaps .now) (length (s .args .out .now)) a (d .before .if2 .left) f (c .if4 .taken)) (refl, (refl, refl))
+    rw (row-buffer (s .args .n) (s .args .gaps .now) (length (s .args .out .now)) a (d .before .if2 .left) f (c .if4 .taken)) (refl, refl)
 
 write-row-requires : tie.Need-write-row-requires
 write-row-requires c κs =
@@ -49,7 +49,7 @@ returns-5 c =
     let s = b .before .before .before .before in
     let a = sym (b .before .are-stations .ensures) ∙ not-false _ (b .if1 .left) in
     let f = sym (d .gaps-fill .ensures) ∙ not-false _ (e .before .if3 .left) in
-    rw (row-accepted (s .args .n) (s .args .gaps .now) (length (s .args .out .now)) a (d .before .if2 .left) f (e .if4 .left)) (refl, (refl, c .before .before .write-row .ensures))
+    rw (row-accepted (s .args .n) (s .args .gaps .now) (length (s .args .out .now)) a (d .before .if2 .left) f (e .if4 .left)) (refl, c .before .before .write-row .ensures)
 
 pub row-of-gaps-spec : {M : Type 1} → statement M
 row-of-gaps-spec = tie.close (tie.spec (λ c κs. search needs) returns returns-2 (λ c κs. search needs) returns-3 returns-4 write-row-requires (λ c. search needs) returns-5)

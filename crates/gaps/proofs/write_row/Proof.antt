@@ -9,10 +9,13 @@ use native.Mathlib.Omega.{arith}
 use lib.ListN.{drop, drop-of-length-le, getD, length, length-append, length-drop, length-replicate, length-set, set, take}
 use lib.Seq.{drop-at, take-all, take-nil}
 use borrow.Author.Needs.{needs}
+use Rattle.density.specs.Blocks.{blocks}
 use Rattle.gaps.proofs.Blocks.{block-next, hole-behind}
 use Rattle.gaps.proofs.Filling.{fills→, to-fill-on, toFill}
-use Rattle.gaps.specs.Gaps.{blocks, fills, rowOfGaps}
+use Rattle.gaps.proofs.RoundTrip.{row-length}
+use Rattle.gaps.specs.Gaps.{fills, rowOfGaps}
 use Rattle.words.proofs.Zeros.{zeros-length}
+use Rattle.words.specs.Buffers.{fronted}
 use Rattle.words.specs.Symbols.{sum, zeros}
 use Rattle.gaps.proofs.write_row.Statement.{statement}
 use Rattle.gaps.proofs.write_row.Tie as tie
@@ -76,17 +79,14 @@ finish n (c ∷ gaps) O out place k v h =
 
 -- ---- the buffer after the zeros, X, which held O
 
-module _ (n : ℕ) (O X : List ℕ) (e : X ≡ rowOfGaps n [] ++ drop n O) (r : n ≤ length O) where
+module _ (n : ℕ) (O X : List ℕ) (e : X ≡ fronted (zeros n) O) (r : n ≤ length O) where
   behind : drop n X ≡ drop n O
-  unfolding rowOfGaps
-  behind = ap (drop n) e ∙ drop-at (zeros n) (drop n O) n (zeros-length n)
+  behind = ap (drop n) e ∙ rw zeros-length (drop-at (zeros n) (drop n O) n (zeros-length n))
 
   cleared : X ≡ zeros n ++ drop n X
-  unfolding rowOfGaps
-  cleared = e ∙ ap (λ w. zeros n ++ w) (sym behind)
+  cleared = e ∙ rw (zeros-length, behind)
 
   cleared-length : length X ≡ length O
-  unfolding rowOfGaps
   cleared-length = ap length e ∙ rw (length-append, length-drop, length-replicate) (omega arith)
 
 loop-holds : tie.Need-loop-holds Inv-loop μ-loop
@@ -127,6 +127,7 @@ returns c =
     let gaps = s .args .gaps .now in
     finish n gaps _ (l .out) (l .place) (l .k) (l .inv) (omega arith)
     ∙ ap (λ w. rowOfGaps n gaps ++ w) (behind n (s .args .out .now) _ (c .before .before .before .before .clear .ensures) (s .pre .0))
+    ∙ rw (row-length n gaps (s .pre .1))
 
 pub write-row-spec : {M : Type 1} → statement M
 write-row-spec =

@@ -3,12 +3,13 @@ use Prim.Native.Nat.{ℕ, _*_, _-_, _≤_}
 use native.Mathlib.Nat.{div-le-self}
 use native.Mathlib.Omega.{arith}
 use borrow.Author.Needs.{needs}
+use Rattle.refusal.specs.Verdicts.{mostStations}
 use Rattle.top_test.proofs.agrees.Statement.{statement}
 use Rattle.top_test.proofs.agrees.Tie as tie
 
 record Inv (n product i : ℕ) : Type 0 where
   upto : i ≤ n
-  small : product ≤ 64 * i
+  small : product ≤ mostStations * i
 
 abbrev Inv-loop : tie.InvT-loop
 Inv-loop n d row product₀ i₀ product i = Inv n product i

@@ -1,11 +1,12 @@
 -- `top_test::compare_all` is safe and ends: each length adds at most 65 to both counts.
 use Prim.Native.Nat.{_+_, _*_, _-_, _≤_}
 use borrow.Author.Needs.{needs}
+use Rattle.refusal.specs.Verdicts.{mostStations}
 use Rattle.top_test.proofs.compare_all.Statement.{statement}
 use Rattle.top_test.proofs.compare_all.Tie as tie
 
 abbrev Inv-loop2 : tie.InvT-loop2
-Inv-loop2 compared₀ agreed₀ n d₀ compared agreed d = (1 ≤ n) × (n ≤ 64) × (d ≤ n + 1) × (compared ≤ 66 * n + d) × (agreed ≤ compared)
+Inv-loop2 compared₀ agreed₀ n d₀ compared agreed d = (1 ≤ n) × (n ≤ mostStations) × (d ≤ n + 1) × (compared ≤ 66 * n + d) × (agreed ≤ compared)
 
 abbrev μ-loop2 : tie.MeasureT-loop2
 μ-loop2 compared₀ agreed₀ n d₀ compared agreed d = n + 1 - d

@@ -1,6 +1,6 @@
 -- `density::count::sum_ones` meets its contract.
 use mathlib.Core.Path.{ap, refl, _∙_, _≡_}
-use Prim.Native.Nat.{_-_, _≤_}
+use Prim.Native.Nat.{_-_, _<_, _≤_}
 use native.Mathlib.Omega.{arith}
 use lib.ListN.{getD, length, take}
 use lib.Seq.{take-all}
@@ -26,7 +26,7 @@ shared-slice-read-ones c = search needs
 add-ones : tie.Need-add-ones Inv-loop μ-loop
 add-ones c =
     let l = c .before .before in
-    omega (arith, l .before .pre .1 (l .loop .i))
+    omega (arith, l .before .pre .1 (l .loop .i) (omega arith))
 
 add-i : tie.Need-add-i Inv-loop μ-loop
 add-i c = search needs
@@ -39,7 +39,7 @@ loop-again c =
     let l = c .before .before in
     let a = l .before .args .row .now in
     let i = l .loop .i in
-    let small : getD a i 0 ≤ 1 = l .before .pre .1 i in
+    let small : getD a i 0 < 2 = l .before .pre .1 i (omega arith) in
     (omega arith, omega (arith, sum-take a i (omega arith)), omega arith)
 
 cast-result : tie.Need-cast-result Inv-loop μ-loop

@@ -1,6 +1,6 @@
 -- `necklace::inner::write_rotation` meets its contract: as far as place i the buffer has the rotation.
 use mathlib.Core.List.{List}
-use mathlib.Core.Path.{refl, _∙_, _≡_}
+use mathlib.Core.Path.{refl, _≡_}
 use Prim.Native.Nat.{ℕ, _-_, _≤_}
 use native.Mathlib.Omega.{arith}
 use lib.ListN.{length, length-set}
@@ -40,7 +40,7 @@ returns c =
     let l = c .before .loop in
     let s = c .before .before .before .before .args in
     let size = rotation-length (s .j) (s .row .now) in
-    front-all (rotation (s .j) (s .row .now)) (s .out .now) (l .out) (l .at) (omega arith) (l .inv .written) ∙ rw size
+    front-all (rotation (s .j) (s .row .now)) (s .out .now) (l .out) (l .at) (omega arith) (l .inv .written)
 
 pub write-rotation-spec : {M : Type 1} → statement M
 write-rotation-spec =

@@ -4,8 +4,8 @@ use native.Mathlib.Nat.{pos-of-ne-zero}
 use native.Mathlib.Omega.{arith}
 use lib.ListN.{length}
 use borrow.Author.Needs.{needs}
-use Rattle.prefix.proofs.Carrying.{after-barred, after-higher, after-lower, after-one, after-same}
 use Rattle.prefix.proofs.carried.period_after.Statement.{statement}
+use Rattle.words.proofs.AllButLast.{after-barred, after-higher, after-lower, after-one, after-same}
 use Rattle.prefix.proofs.carried.period_after.Tie as tie
 
 returns : tie.Need-returns

@@ -15,12 +15,13 @@ use Rattle.words.proofs.ScanMore.{barred-on, more-higher, more-lower, more-same
 use Rattle.words.proofs.ScanSteps.{next-at}
 use Rattle.words.specs.Scan.{coded, next, scan}
 use Rattle.words.specs.Symbols.{zeros}
+use Rattle.refusal.specs.Verdicts.{mostStations}
 use Rattle.prefix.proofs.carried.prefixes_of.Statement.{statement}
 use Rattle.prefix.proofs.carried.prefixes_of.Tie as tie
 
 record Inv (a found : List ℕ) (i j p : ℕ) : Type 0 where
   behind : j < i
-  long : length found ≡ 64
+  long : length found ≡ mostStations
   period : p ≡ i - j
   scans : i ≤ length a → coded p ≡ scan (take i a)
   each : (m : ℕ) → 0 < m → m < i → m < length a → coded (getD found m 0) ≡ scan (take m a)
@@ -36,18 +37,18 @@ zero-at zero m = refl
 zero-at (suc n) zero = refl
 zero-at (suc n) (suc m) = zero-at n m
 
-inv-first : (a : List ℕ) → Inv a (zeros 64) 1 0 1
+inv-first : (a : List ℕ) → Inv a (zeros mostStations) 1 0 1
 inv-first a = record {
   behind = omega arith;
   long = refl;
   period = refl;
   scans = first-scan a;
   each = λ m h k l. absurd (omega arith);
-  rest = λ m h. zero-at 64 m;
-  within = λ m. omega (arith, zero-at 64 m);
+  rest = λ m h. zero-at mostStations m;
+  within = λ m. omega (arith, zero-at mostStations m);
 }
 
-module _ {a found : List ℕ} {i j p : ℕ} (v : Inv a found i j p) (h : i < length a) (few : length a ≤ 64) where
+module _ {a found : List ℕ} {i j p : ℕ} (v : Inv a found i j p) (h : i < length a) (few : length a ≤ mostStations) where
   inside : i < length found
   inside = omega (arith, v .long)
 

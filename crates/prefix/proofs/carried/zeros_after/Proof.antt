@@ -1,19 +1,20 @@
 -- `prefix::carried::zeros_after` meets its contract.
 use mathlib.Core.Path.{refl, subst}
 use Prim.Native.Nat.{_+_, _-_}
+use native.Mathlib.Omega.{arith}
 use lib.ListN.{length}
 use borrow.Author.Needs.{needs}
-use Rattle.prefix.proofs.Carrying.{by-last, front-length}
-use Rattle.prefix.proofs.Product.{lead-on, lead-one, lead-past}
-use Rattle.words.specs.Scan.{Leading}
 use Rattle.prefix.proofs.carried.zeros_after.Statement.{statement}
+use Rattle.words.proofs.AllButLast.{by-last, front-length}
+use Rattle.words.proofs.LeadingZeros.{lead-on, lead-one, lead-past}
+use Rattle.words.specs.Scan.{Leading}
 use Rattle.prefix.proofs.carried.zeros_after.Tie as tie
 
 returns : tie.Need-returns
 returns c =
     let s = c .before .before in
     let a = s .args .a .now in
-    subst (λ w. Leading w (s .args .z)) (by-last a (s .pre .0)) (lead-one _ (s .args .z) (s .pre .1) (s .pre .2 _) (c .if1 .taken) refl)
+    subst (λ w. Leading w (s .args .z)) (by-last a (s .pre .0)) (lead-one _ (s .args .z) (s .pre .1) (omega (arith, s .pre .2 (length a - 1) (omega (arith, s .pre .0)))) (c .if1 .taken) refl)
 
 returns-2 : tie.Need-returns-2
 returns-2 c =

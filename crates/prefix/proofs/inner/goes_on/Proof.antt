@@ -8,12 +8,14 @@ use native.Mathlib.Numerals.{add-one}
 use native.Mathlib.Omega.{arith}
 use lib.ListN.{drop, length}
 use borrow.Author.Needs.{needs}
+use Rattle.density.proofs.BalancedSteps.{Error, fit-end, fit-higher, fit-long, fit-lower, fit-same, stays, steps}
+use Rattle.density.proofs.FirstOne.{product-else, product-not}
 use Rattle.density.specs.Balanced.{balancedFrom}
-use Rattle.prefix.proofs.BalancedSteps.{Error, fit-end, fit-higher, fit-long, fit-lower, fit-same, fits-few, fits-many, fits-some, stays, steps}
-use Rattle.prefix.proofs.Product.{product-else, product-fits, product-not}
+use Rattle.prefix.proofs.Fits.{fits-few, fits-many, fits-some, product-fits}
+use Rattle.refusal.specs.Verdicts.{mostStations}
+use Rattle.prefix.proofs.inner.goes_on.Statement.{statement}
 use Rattle.prefix.specs.Search.{fits}
 use Rattle.words.specs.Order.{le}
-use Rattle.prefix.proofs.inner.goes_on.Statement.{statement}
 use Rattle.prefix.proofs.inner.goes_on.Tie as tie
 
 abbrev Inv-loop : tie.InvT-loop
@@ -60,8 +62,8 @@ returns-2 c =
 mul-if3 : tie.Need-mul-if3 Inv-loop μ-loop
 mul-if3 c =
     let args = c .before .before .args in
-    let z : args .z ≤ 64 = omega arith in
-    let e : args .d - args .h ≤ 64 = omega arith in
+    let z : args .z ≤ mostStations = omega arith in
+    let e : args .d - args .h ≤ mostStations = omega arith in
     omega (arith, mul-le-mul z e)
 
 returns-3 : tie.Need-returns-3 Inv-loop μ-loop
@@ -76,8 +78,8 @@ add-first c = omega arith
 mul-first : tie.Need-mul-first Inv-loop μ-loop
 mul-first c =
     let args = c .before .before .before .args in
-    let z : args .z + 1 ≤ 64 = omega arith in
-    let e : args .d - args .h ≤ 64 = omega arith in
+    let z : args .z + 1 ≤ mostStations = omega arith in
+    let e : args .d - args .h ≤ mostStations = omega arith in
     omega (arith, mul-le-mul z e)
 
 returns-4 : tie.Need-returns-4 Inv-loop μ-loop
@@ -90,7 +92,7 @@ loop-holds : tie.Need-loop-holds Inv-loop μ-loop
 loop-holds c =
     let start = c .before .before .before .before in
     let args = start .args in
-    let t = product-else (args .g .now) (args .m) (args .d - args .h) (args .z) (start .pre .4) (omega arith) (omega arith) (omega arith) (start .pre .5 (args .z)) (c .before .if3 .left) (rw add-one at (c .if4 .left)) in
+    let t = product-else (args .g .now) (args .m) (args .d - args .h) (args .z) (start .pre .4) (omega arith) (omega arith) (omega arith) (omega (arith, start .pre .5 (args .z) (omega arith))) (c .before .if3 .left) (rw add-one at (c .if4 .left)) in
     rw add-one (omega arith, t .0, compared (c .before) ∙ t .1)
 
 returns-5 : tie.Need-returns-5 Inv-loop μ-loop

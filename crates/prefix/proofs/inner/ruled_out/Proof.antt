@@ -7,9 +7,10 @@ use native.Mathlib.Omega.{arith}
 use lib.ListN.{length}
 use borrow.Author.Needs.{needs}
 use borrow.Author.Tests.{ltb-true}
-use Rattle.prefix.proofs.Sparse.{too-few, too-many, too-sparse}
-use Rattle.words.specs.Symbols.{sum}
+use Rattle.density.proofs.Sparse.{too-few, too-many, too-sparse}
+use Rattle.refusal.specs.Verdicts.{mostStations}
 use Rattle.prefix.proofs.inner.ruled_out.Statement.{statement}
+use Rattle.words.specs.Symbols.{sum}
 use Rattle.prefix.proofs.inner.ruled_out.Tie as tie
 
 returns : tie.Need-returns
@@ -22,8 +23,8 @@ mul-result : tie.Need-mul-result
 mul-result c =
     let start = c .before .before .before in
     let args = start .args in
-    let z : args .z + 1 ≤ 64 = omega arith in
-    let e : args .d - args .h ≤ 64 = omega arith in
+    let z : args .z + 1 ≤ mostStations = omega arith in
+    let e : args .d - args .h ≤ mostStations = omega arith in
     omega (arith, mul-le-mul z e)
 
 returns-3 : tie.Need-returns-3
@@ -33,7 +34,7 @@ returns-3 c κ =
     let a = args .prefix .now in
     let few : (args .z + 1) * (args .d - args .h) < args .n - length a = ltb-true _ _ κ in
     let few′ : suc (args .z) * (args .d - sum a) < args .n - length a = rw (← start .pre .3) (rw add-one at few) in
-    too-sparse (args .n) (args .d) a (omega arith) (args .z) (omega arith) (start .pre .4 .front) (omega (arith, start .pre .4 .then (omega arith), start .pre .5 (args .z))) few′
+    too-sparse (args .n) (args .d) a (omega arith) (args .z) (omega arith) (start .pre .4 .front) (omega (arith, start .pre .4 .then (omega arith), start .pre .5 (args .z) (omega arith))) few′
 
 returns-4 : tie.Need-returns-4
 returns-4 c κ = absurd (false≢true κ)

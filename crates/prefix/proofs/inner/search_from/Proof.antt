@@ -3,23 +3,25 @@
 use mathlib.Core.List.{[], _∷_}
 use mathlib.Core.Logic.{⊎-elim}
 use mathlib.Core.Path.{refl, sym, _∙_, _≡_}
-use Prim.Native.Nat.{_+_, _-_, _≤_}
+use Prim.Native.Nat.{_+_, _-_, _<_, _≤_}
 use native.Mathlib.Omega.{arith}
 use lib.ListN.{getD, length, length-append, length-set, set, take}
 use lib.Seq.{length-take-le}
 use borrow.Author.Needs.{needs}
-use Rattle.prefix.proofs.Places.{broken-end, leaves-up, put, put-over, stays-high, stays-low, sum-snoc, symbols-set, symbols-snoc, symbols-take, taken, whole-end}
-use Rattle.prefix.proofs.Product.{lead-on, lead-one, lead-past, lead-up}
-use Rattle.prefix.specs.Search.{Symbols, continues}
-use Rattle.words.proofs.Prefixes.{goes-on}
-use Rattle.words.specs.Scan.{Leading, _▹_}
-use Rattle.words.specs.Symbols.{sum}
+use Rattle.density.proofs.Counts.{sum-snoc}
+use Rattle.prefix.proofs.Places.{broken-end, leaves-up, put, put-over, stays-high, stays-low, whole-end}
+use Rattle.refusal.specs.Verdicts.{mostStations}
 use Rattle.prefix.proofs.inner.search_from.Statement.{statement}
+use Rattle.prefix.specs.Search.{continues}
+use Rattle.words.proofs.Alphabet.{within-set, within-snoc, within-take}
+use Rattle.words.proofs.LeadingZeros.{lead-on, lead-one, lead-past, lead-up}
+use Rattle.words.specs.Scan.{Leading, _▹_}
+use Rattle.words.specs.Symbols.{Within, sum}
 use Rattle.prefix.proofs.inner.search_from.Tie as tie
 
 abbrev Inv-loop : tie.InvT-loop
 Inv-loop t n d p h z₀ x₀ i₀ ones₀ z x i ones =
-    (t ≤ i) × (i ≤ n) × (length x ≡ 64) × (ones ≡ sum (take i x)) × (ones ≤ i) × Symbols x × (continues d p (n - t) (take t x₀) ≡ continues d p (n - i) (take i x)) × Leading (take i x) z
+    (t ≤ i) × (i ≤ n) × (length x ≡ mostStations) × (ones ≡ sum (take i x)) × (ones ≤ i) × Within 2 x × (continues d p (n - t) (take t x₀) ≡ continues d p (n - i) (take i x)) × Leading (take i x) z
 
 abbrev μ-loop : tie.MeasureT-loop
 μ-loop t n d p h z₀ x₀ i₀ ones₀ z x i ones = n - i
@@ -61,7 +63,7 @@ goes-on-requires c κs =
     let g = put (l .loop .x) (l .loop .i) 1 (omega arith) in
     let size : length a ≡ l .loop .i = length-take-le (l .loop .i) (l .loop .x) (omega arith) in
     let lead = l .loop .inv .7 in
-    rw g (omega arith, rw sum-snoc (omega arith), omega (arith, length-append a (1 ∷ []), lead .within), omega (arith, length-append a (1 ∷ [])), lead-up a _ lead, symbols-snoc a 1 (symbols-take (l .loop .i) (l .loop .x) (l .loop .inv .5)) (omega arith))
+    rw g (omega arith, rw sum-snoc (omega arith), omega (arith, length-append a (1 ∷ []), lead .within), omega (arith, length-append a (1 ∷ [])), lead-up a _ lead, within-snoc a 1 (within-take (l .loop .i) (l .loop .x) (l .loop .inv .5)) (omega arith))
 
 returns : tie.Need-returns Inv-loop μ-loop
 returns c =
@@ -77,12 +79,12 @@ array-write-x-2 c = search needs
 cast-ones : tie.Need-cast-ones Inv-loop μ-loop
 cast-ones c =
     let l = c .before .before in
-    omega (arith, l .loop .inv .5 (l .loop .i - l .before .args .p))
+    omega (arith, l .loop .inv .5 (l .loop .i - l .before .args .p) (omega arith))
 
 add-ones : tie.Need-add-ones Inv-loop μ-loop
 add-ones c =
     let l = c .before .before in
-    omega (arith, l .loop .inv .5 (l .loop .i - l .before .args .p))
+    omega (arith, l .loop .inv .5 (l .loop .i - l .before .args .p) (omega arith))
 
 add-i : tie.Need-add-i Inv-loop μ-loop
 add-i c = search needs
@@ -97,7 +99,7 @@ loop-again c =
     let x = l .loop .x in
     let i = l .loop .i in
     let b = getD x (i - args .p) 0 in
-    let small : b ≤ 1 = l .loop .inv .5 (i - args .p) in
+    let small : b < 2 = l .loop .inv .5 (i - args .p) (omega arith) in
     let same : take (i + 1) (set (set x i 1) i b) ≡ take i x ▹ b = put-over x i 1 b (omega arith) in
     let size : length (take i x) ≡ i = length-take-le i x (omega arith) in
     let lead = l .loop .inv .7 in (
@@ -106,7 +108,7 @@ loop-again c =
       simp length-set (l .loop .inv .2),
       rw (same, sum-snoc) (omega arith),
       omega arith,
-      symbols-set (set x i 1) i b (symbols-set x i 1 (l .loop .inv .5) (omega arith)) small,
+      within-set (set x i 1) i b (within-set x i 1 (l .loop .inv .5) (omega arith)) small,
       l .loop .inv .6 ∙
           ⊎-elim
           (λ w. stays-low (args .n) (args .d) (args .p) x i (omega arith) (omega arith) (omega arith) (omega arith) (sym (w .2 .ensures) ∙ w .3 .left))
@@ -119,7 +121,7 @@ loop-again c =
           (λ w. lead-on b i (c .if1 .z) lead size (w .0 .taken) (w .4 .taken) (w .5))
           (⊎-elim
           (λ w. lead-past b i (c .if1 .z) lead size (w .4 .left) (w .5))
-          (λ w. lead-one b (c .if1 .z) lead small (w .0 .left) (w .1)))
+          (λ w. lead-one b (c .if1 .z) lead (omega (arith, small)) (w .0 .left) (w .1)))
           (c .if1 .came)),
     )
 

@@ -6,7 +6,8 @@ use Prim.Native.Nat.{_+_, _-_, _<_}
 use native.Mathlib.Omega.{arith}
 use lib.ListN.{drop, length, length-drop, take}
 use borrow.Author.Needs.{needs}
-use Rattle.printing.proofs.Growing.{Grown, behind, grown-more}
+use Rattle.printing.proofs.Growing.{Grown, grown-more}
+use Rattle.text.proofs.Written.{behind}
 use Rattle.printing.proofs.Ending.{done-left, left-done, line-some}
 use Rattle.printing.specs.NextLine.{isDone, nextOf}
 use Rattle.printing.proofs.Printing.fill.Statement.{statement}

@@ -24,7 +24,7 @@ returns c =
     let o = c .before .before .before in
     let k = o .before .before in
     let s = k .before .before in
-    opened-left (s .args .n) (s .args .d) (k .kind-byte .result) (limit s) (o .«open» .result) (o .«open» .ensures .0) (c .enum-told .given .1) ∙ kind-text k
+    opened-left (s .args .n) (s .args .d) (k .kind-byte .result) (limit s) (o .«open» .result) (o .«open» .ensures .0) (o .«open» .ensures .1) (c .enum-told .given .1) ∙ kind-text k
 
 returns-2 : tie.Need-returns-2
 returns-2 c =
@@ -32,7 +32,7 @@ returns-2 c =
     let o = a .before .before .before in
     let k = o .before .before in
     let s = k .before .before in
-    c .start-refusal .ensures ∙ refused-left (s .args .n) (s .args .d) (k .kind-byte .result) (limit s) (o .«open» .result) (o .«open» .ensures .0) _ (a .answer .given .1) ∙ kind-text k
+    c .start-refusal .ensures ∙ refused-left (s .args .n) (s .args .d) (k .kind-byte .result) (limit s) (o .«open» .result) (o .«open» .ensures .0) (o .«open» .ensures .1) _ (a .answer .given .1) ∙ kind-text k
 
 pub start-walk-spec : {M : Type 1} → statement M
 start-walk-spec =

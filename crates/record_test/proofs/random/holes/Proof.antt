@@ -1,6 +1,7 @@
 -- `record_test::random::holes` is safe and ends.
 use Prim.Native.Nat.{_-_, _≤_}
 use borrow.Author.Needs.{needs}
+use Rattle.refusal.specs.Verdicts.{mostStations}
 use Rattle.record_test.proofs.random.holes.Statement.{statement}
 use Rattle.record_test.proofs.random.holes.Tie as tie
 
@@ -8,7 +9,7 @@ abbrev Inv-loop : tie.InvT-loop
 Inv-loop index n row ones₀ i₀ ones i = ones ≤ i
 
 abbrev μ-loop : tie.MeasureT-loop
-μ-loop index n row ones₀ i₀ ones i = 64 - i
+μ-loop index n row ones₀ i₀ ones i = mostStations - i
 
 pub holes-spec : {M : Type 1} → statement M
 holes-spec =

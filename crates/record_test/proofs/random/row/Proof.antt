@@ -3,14 +3,15 @@ use mathlib.Core.Path.{_≡_}
 use Prim.Native.Nat.{_-_}
 use lib.ListN.{length}
 use borrow.Author.Needs.{needs}
+use Rattle.refusal.specs.Verdicts.{mostStations}
 use Rattle.record_test.proofs.random.row.Statement.{statement}
 use Rattle.record_test.proofs.random.row.Tie as tie
 
 abbrev Inv-loop : tie.InvT-loop
-Inv-loop index n row₀ i₀ row i = length row ≡ 64
+Inv-loop index n row₀ i₀ row i = length row ≡ mostStations
 
 abbrev μ-loop : tie.MeasureT-loop
-μ-loop index n row₀ i₀ row i = 64 - i
+μ-loop index n row₀ i₀ row i = mostStations - i
 
 pub row-spec : {M : Type 1} → statement M
 row-spec =

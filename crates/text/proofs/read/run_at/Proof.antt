@@ -7,7 +7,7 @@ use lib.ListN.{drop, length}
 use borrow.Author.Needs.{needs}
 use borrow.Author.Tests.{not-false, not-true}
 use Rattle.text.proofs.Runs.{run-on, run-out, run-stops}
-use Rattle.text.specs.Parts.{belongs, run}
+use Rattle.text.specs.Parts.{run}
 use Rattle.text.specs.declared.Bytes.{Bytes}
 use Rattle.text.proofs.read.run_at.Statement.{statement}
 use Rattle.text.proofs.read.run_at.Tie as tie

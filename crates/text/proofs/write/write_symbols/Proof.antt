@@ -40,7 +40,7 @@ returns c =
     let l = c .before .loop in
     let a = c .before .before .before .before .args in
     let n = length-map (a .bytes .now) symbolOf in
-    rw length-map at (front-all (map symbolOf (a .bytes .now)) (a .out .now) (l .out) (l .i) (omega arith) (l .inv .front))
+    front-all (map symbolOf (a .bytes .now)) (a .out .now) (l .out) (l .i) (omega arith) (l .inv .front)
 
 pub write-symbols-spec : {M : Type 1} → statement M
 write-symbols-spec =

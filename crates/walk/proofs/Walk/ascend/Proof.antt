@@ -2,26 +2,27 @@
 use mathlib.Core.Bool.{Bool, false, true}
 use mathlib.Core.List.{List, [], _++_, _∷_}
 use mathlib.Core.Logic.{⊎-elim}
-use mathlib.Core.Path.{ap, refl, subst, sym, _∙_, _≡_}
+use mathlib.Core.Path.{ap, refl, sym, _∙_, _≡_}
 use Prim.Native.Nat.{ℕ, _+_, _-_, _<_, _≤_}
 use native.Mathlib.Nat.{pos-of-ne-zero}
 use native.Mathlib.Omega.{arith}
 use lib.ListN.{getD, length, length-set, set, take}
-use lib.Seq.{length-take-le, set-set}
+use lib.Seq.{set-set}
 use borrow.Author.Needs.{needs}
 use borrow.Author.Tests.{not-false, not-true}
 use Rattle.density.specs.Necklaces.{begins}
-use Rattle.prefix.proofs.Places.{symbols-set, symbols-take}
 use Rattle.prefix.specs.Carried.{Knows}
-use Rattle.prefix.specs.Search.{Symbols}
 use Rattle.prefix.specs.declared.carried.Known.{Known}
 use Rattle.walk.proofs.MoveCases.{bit, good-long, good-symbols, good-up, up-due, up-tried}
 use Rattle.walk.proofs.Resuming.{Comes, comes-at, then-part, then-spent, then-trial}
 use Rattle.walk.proofs.Tried.{asked, tried-front, tried-last, tried-length}
+use Rattle.refusal.specs.Verdicts.{mostStations}
+use Rattle.walk.proofs.Walk.ascend.Statement.{statement}
 use Rattle.walk.specs.Moves.{moved}
 use Rattle.walk.specs.declared.Standing.the-variants.{Up}
 use Rattle.walk.specs.declared.Walk.{Walk}
-use Rattle.walk.proofs.Walk.ascend.Statement.{statement}
+use Rattle.words.proofs.Alphabet.{within-set, within-take}
+use Rattle.words.specs.Symbols.{Within}
 use Rattle.walk.proofs.Walk.ascend.Tie as tie
 
 record Inv (w : Walk) (allowed : ℕ) (row : List ℕ) (p left : ℕ) (known : Known) : Type 0 where
@@ -38,10 +39,10 @@ module _ {w : Walk} {allowed : ℕ} {row : List ℕ} {p left : ℕ} {known : Kno
   place : (2 ≤ p) × (p ≤ w .n + 1) × (begins (w .n) (w .d) (take (p - 1) row) ≡ true)
   place = good-up (v .comes .good) p refl
 
-  long : length row ≡ 64
+  long : length row ≡ mostStations
   long = good-long (v .comes .good)
 
-  few : w .n ≤ 64
+  few : w .n ≤ mostStations
   few = v .comes .good .sound .most
 
   module _ (h : p ≤ w .n) where
@@ -82,11 +83,11 @@ module _ {w : Walk} {allowed : ℕ} {row : List ℕ} {p left : ℕ} {known : Kno
   turn-length : length (take p new) ≡ p
   turn-length = rw (t .is) (tried-length row p (bit (t .b)) (fits-in v h))
 
-  asks-more : (0 < length (take p new)) × (length (take p new) ≤ 64) × Symbols (take p new) × Knows (take (length (take p new) - 1) (take p new)) known
+  asks-more : (0 < length (take p new)) × (length (take p new) ≤ mostStations) × Within 2 (take p new) × Knows (take (length (take p new) - 1) (take p new)) known
   asks-more = (
     omega (arith, turn-length, positive v h),
     omega (arith, turn-length, few v),
-    symbols-take p new (good-symbols (t .comes .good)),
+    within-take p new (good-symbols (t .comes .good)),
     rw (t .is, tried-front row p (bit (t .b)) (positive v h) (fits-in v h)) (v .knows),
   )
 
@@ -122,7 +123,7 @@ begins-with-one-requires c κs =
     let l = c .before .before .before in
     let v = l .loop .inv in
     let q = asks-up v (c .before .before .loop-test .taken) in
-    (few v, v .comes .good .sound .dense, q .0, q .1, symbols-take (l .loop .p) (set (l .loop .row) (l .loop .p - 1) 1) (symbols-set (l .loop .row) (l .loop .p - 1) 1 (good-symbols (v .comes .good)) (omega arith)), q .2, q .3, q .4)
+    (few v, v .comes .good .sound .dense, q .0, q .1, within-take (l .loop .p) (set (l .loop .row) (l .loop .p - 1) 1) (within-set (l .loop .row) (l .loop .p - 1) 1 (good-symbols (v .comes .good)) (omega arith)), q .2, q .3, q .4)
 
 -- what the trial leaves
 turn : (c : tie.Joined2 Inv-loop μ-loop)

@@ -1,6 +1,5 @@
 -- `walk::Walk::below` meets its contract.
 use mathlib.Core.Path.{sym}
-use native.Mathlib.Omega.{arith}
 use borrow.Author.Needs.{needs}
 use Rattle.walk.proofs.MoveCases.{gone-last, gone-on}
 use Rattle.walk.proofs.Walk.below.Statement.{statement}

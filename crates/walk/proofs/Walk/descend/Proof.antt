@@ -11,17 +11,18 @@ use lib.Seq.{length-take-le, take-take}
 use borrow.Author.Needs.{needs}
 use Rattle.density.specs.Necklaces.{begins}
 use Rattle.prefix.proofs.CarriedLaws.{knows-fewer}
-use Rattle.prefix.proofs.Places.{symbols-set, symbols-take}
 use Rattle.prefix.specs.Carried.{Knows, KnowsPrefixes}
-use Rattle.prefix.specs.Search.{Symbols}
 use Rattle.prefix.specs.declared.carried.Known.{Known}
 use Rattle.walk.proofs.MoveCases.{down-due, down-free, down-no, down-yes, good-down, good-long, good-symbols}
 use Rattle.walk.proofs.Resuming.{Comes, comes-at, then-free, then-part, then-spent, then-trial}
 use Rattle.walk.proofs.Tried.{asked, put-back, tried-front, tried-length}
+use Rattle.refusal.specs.Verdicts.{mostStations}
+use Rattle.walk.proofs.Walk.descend.Statement.{statement}
 use Rattle.walk.specs.Moves.{moved}
 use Rattle.walk.specs.declared.Standing.the-variants.{Down, Up}
 use Rattle.walk.specs.declared.Walk.{Walk}
-use Rattle.walk.proofs.Walk.descend.Statement.{statement}
+use Rattle.words.proofs.Alphabet.{within-set, within-take}
+use Rattle.words.specs.Symbols.{Within}
 use Rattle.walk.proofs.Walk.descend.Tie as tie
 
 record Inv (w : Walk) (allowed : ℕ) (prefixes row : List ℕ) (p left : ℕ) (known : Known) : Type 0 where
@@ -41,13 +42,13 @@ record Turn (w : Walk) (allowed : ℕ) (row : List ℕ) (p : ℕ) (new : List �
   comes : Comes w allowed (moved w new (Down (p - 1))) left
 
 module _ {w : Walk} {allowed : ℕ} {prefixes row : List ℕ} {p left : ℕ} {known : Known} (v : Inv w allowed prefixes row p left known) where
-  symbols : Symbols row
+  symbols : Within 2 row
   symbols = good-symbols (v .comes .good)
 
-  long : length row ≡ 64
+  long : length row ≡ mostStations
   long = good-long (v .comes .good)
 
-  few : w .n ≤ 64
+  few : w .n ≤ mostStations
   few = v .comes .good .sound .most
 
   inside : p ≤ w .n
@@ -58,19 +59,19 @@ module _ {w : Walk} {allowed : ℕ} {prefixes row : List ℕ} {p left : ℕ} {kn
 
   module _ (h : 0 < p) where
     one : (getD row (p - 1) 0 ≡ 0 → ⊥) → getD row (p - 1) 0 ≡ 1
-    one e = omega (arith, symbols (p - 1), pos-of-ne-zero e)
+    one e = omega (arith, symbols (p - 1) (omega (arith, h, fits-in)), pos-of-ne-zero e)
 
-    tried-symbols : Symbols (set row (p - 1) 0)
-    tried-symbols = symbols-set row (p - 1) 0 symbols (omega arith)
+    tried-symbols : Within 2 (set row (p - 1) 0)
+    tried-symbols = within-set row (p - 1) 0 symbols (omega arith)
 
     -- what was asked
     answer-is : (r b : Bool) → r ≡ begins (w .n) (w .d) (take p (set row (p - 1) 0)) → r ≡ b → begins (w .n) (w .d) (take (p - 1) row ++ (0 ∷ [])) ≡ b
     answer-is r b e f = ap (begins (w .n) (w .d)) (sym (asked row p 0 h fits-in)) ∙ sym e ∙ f
 
-    asks-longer : let a = take p (set row (p - 1) 0) in (0 < length a) × (length a ≤ 64) × Symbols a × Knows (take (length a - 1) a) known
+    asks-longer : let a = take p (set row (p - 1) 0) in (0 < length a) × (length a ≤ mostStations) × Within 2 a × Knows (take (length a - 1) a) known
     asks-longer =
         let size : length (take p (set row (p - 1) 0)) ≡ p = tried-length row p 0 fits-in in
-        (omega (arith, size), omega (arith, size, fits-in, long), symbols-take p (set row (p - 1) 0) tried-symbols, rw (tried-front row p 0 h fits-in) (v .knows))
+        (omega (arith, size), omega (arith, size, fits-in, long), within-take p (set row (p - 1) 0) tried-symbols, rw (tried-front row p 0 h fits-in) (v .knows))
 
     on-yes : (e : getD row (p - 1) 0 ≡ 0 → ⊥) → 0 < left → begins (w .n) (w .d) (take (p - 1) row ++ (0 ∷ [])) ≡ true → Comes w allowed (moved w (set row (p - 1) 0) (Up (p + 1))) (left - 1)
     on-yes e l f = then-trial (v .comes) (set row (p - 1) 0) (Up (p + 1)) l (down-yes w row p h (one e) f)
@@ -86,8 +87,8 @@ module _ {w : Walk} {allowed : ℕ} {prefixes row : List ℕ} {p left : ℕ} {kn
       front-length : length (take (p - 1) new) ≡ p - 1
       front-length = length-take-le (p - 1) new (omega (arith, ap length (t .is), fits-in))
 
-      asks-shorter : (length (take (p - 1) new) ≤ 64) × Symbols (take (p - 1) new) × Knows (take (p - 1) new) known × KnowsPrefixes (take (p - 1) new) prefixes
-      asks-shorter = (omega (arith, front-length, fits-in, long), symbols-take (p - 1) new (good-symbols (t .comes .good)), rw (t .is) (v .knows), rw (t .is) (v .table))
+      asks-shorter : (length (take (p - 1) new) ≤ mostStations) × Within 2 (take (p - 1) new) × Knows (take (p - 1) new) known × KnowsPrefixes (take (p - 1) new) prefixes
+      asks-shorter = (omega (arith, front-length, fits-in, long), within-take (p - 1) new (good-symbols (t .comes .good)), rw (t .is) (v .knows), rw (t .is) (v .table))
 
       shorter : take (length (take (p - 1) new) - 1) (take (p - 1) new) ≡ take (p - 1 - 1) new
       shorter = rw front-length (take-take (p - 1 - 1) (p - 1) new (omega arith))

@@ -1,29 +1,25 @@
 -- `walk::Walk::fit_at` meets its contract.
-use mathlib.Core.Path.{ap, refl, subst, sym, _∙_, _≡_}
-use Prim.Native.Nat.{_-_, _≤_}
+use mathlib.Core.Path.{refl, subst, sym, _∙_, _≡_}
+use Prim.Native.Nat.{_≤_}
 use native.Mathlib.Omega.{arith}
 use lib.ListN.{length, take}
 use lib.Seq.{length-take-le}
 use borrow.Author.Needs.{needs}
 use borrow.Author.Tests.{not-false, not-true}
-use Rattle.prefix.proofs.Places.{symbols-take}
 use Rattle.prefix.specs.Carried.{Knows}
-use Rattle.prefix.specs.declared.carried.Known.{Known}
 use Rattle.walk.proofs.FitSteps.{at-down, at-down-to, at-ended, at-given, at-given-not, at-up, at-up-high, at-up-low, fit-as, is-necklace}
+use Rattle.walk.proofs.Walk.fit_at.Statement.{statement}
 use Rattle.walk.specs.Course.{before}
 use Rattle.walk.specs.Fit.{fitAt}
 use Rattle.walk.specs.Moves.{rowOf}
 use Rattle.walk.specs.declared.Standing.{Standing}
 use Rattle.walk.specs.declared.Standing.the-variants.{Down, Ended, Given, Limit, Up}
-use Rattle.walk.proofs.Walk.fit_at.Statement.{statement}
+use Rattle.words.proofs.Alphabet.{within-take}
 use Rattle.walk.proofs.Walk.fit_at.Tie as tie
 
 module _ (s : tie.Start) where
-  row-64 : length (s .args .self .row) ≡ 64
-  row-64 = search needs
-
   inside : s .args .self .n ≤ length (s .args .self .row)
-  inside = omega (arith, row-64, s .pre .0 .most)
+  inside = omega (arith, s .pre .0 .long, s .pre .0 .most)
 
   whole : length (rowOf (s .args .self)) ≡ s .args .self .n
   whole = length-take-le (s .args .self .n) (s .args .self .row) inside
@@ -62,7 +58,7 @@ known-row c = let s = c .before .before .before in known-at s Given (c .enum-tol
 is-necklace-of-requires : tie.Need-is-necklace-of-requires
 is-necklace-of-requires c κs =
     let s = c .before .before .before .before in
-    (omega (arith, whole s, s .pre .0 .some), symbols-take (s .args .self .n) (s .args .self .row) (s .pre .0 .symbols), known-row (c .before))
+    (omega (arith, whole s, s .pre .0 .some), within-take (s .args .self .n) (s .args .self .row) (s .pre .0 .symbols), known-row (c .before))
 
 returns-4 : tie.Need-returns-4
 returns-4 c = fit-as _ Given (c .before .before .before .enum-told2 .given .1) (sym (at-given-not _ (sym (c .before .is-necklace-of .ensures) ∙ not-true _ (c .if4 .taken))))

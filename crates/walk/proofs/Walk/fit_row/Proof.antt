@@ -1,18 +1,18 @@
 -- `walk::Walk::fit_row` meets its contract.
 use mathlib.Core.Path.{ap, sym, _∙_, _≡_}
 use native.Mathlib.Omega.{arith}
-use lib.ListN.{length, length-map}
+use lib.ListN.{length}
 use lib.Seq.{length-take-le}
 use borrow.Author.Needs.{needs}
-use Rattle.prefix.proofs.Places.{taken}
 use Rattle.walk.proofs.FitSteps.{from-n, row-high, row-low}
-use Rattle.walk.specs.Fit.{allUpTo}
+use Rattle.refusal.specs.Verdicts.{mostStations}
 use Rattle.walk.proofs.Walk.fit_row.Statement.{statement}
+use Rattle.words.specs.Symbols.{allUpTo}
 use Rattle.walk.proofs.Walk.fit_row.Tie as tie
 
--- the row has 64 symbols, since it is an array of 64
-row-64 : (c : tie.Start) → length (c .args .self .row) ≡ 64
-row-64 c = rw length-map at (c .good .0 .1 .1 .1 .1 .1 .0 .1 .0 .1)
+-- the row is an array
+row-long : (c : tie.Start) → length (c .args .self .row) ≡ mostStations
+row-long c = search needs
 
 returns : tie.Need-returns
 returns c = sym (row-high (c .before .before .before .before .args .self) (c .before .highest .result) (c .before .highest .ensures) (c .if1 .taken))
@@ -22,18 +22,18 @@ returns-2 c =
     let s = c .before .before .before .before .before .before .before in
     let w = s .args .self in
     row-low w (c .before .before .before .before .highest .result) (c .highest2 .result) (c .before .before .before .before .highest .ensures) (c .before .before .before .if1 .left)
-    (λ b. ap (allUpTo b) (sym (from-n (w .row) (w .n) (row-64 s))) ∙ c .highest2 .ensures b)
+    (λ b. ap (allUpTo b) (sym (from-n (w .row) (w .n) (row-long s))) ∙ c .highest2 .ensures b)
 
 pub fit-row-spec : {M : Type 1} → statement M
 fit-row-spec =
     tie.close
     (tie.spec
-    (λ c. omega (arith, row-64 (c .before)))
-    (λ c. sym (length-take-le _ _ (omega (arith, row-64 (c .before .before)))))
+    (λ c. omega (arith, row-long (c .before)))
+    (λ c. sym (length-take-le _ _ (omega (arith, row-long (c .before .before)))))
     (λ c κs. search needs)
     returns
     (λ c. search needs)
     (λ c. search needs)
-    (λ c. omega (arith, row-64 (c .before .before .before .before .before)))
+    (λ c. omega (arith, row-long (c .before .before .before .before .before)))
     (λ c κs. search needs)
     returns-2)

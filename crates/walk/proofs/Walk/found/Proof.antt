@@ -3,7 +3,7 @@ use mathlib.Core.Bool.{false, true}
 use mathlib.Core.Path.{refl, sym, _∙_, _≡_}
 use Prim.Native.Nat.{_≤_}
 use native.Mathlib.Omega.{arith}
-use lib.ListN.{length, take}
+use lib.ListN.{length}
 use lib.Seq.{length-take-le}
 use Rattle.walk.proofs.MoveCases.{from-found, good-found, good-long}
 use Rattle.walk.proofs.Resuming.{comes-here, then-answer, then-struck}

@@ -1,18 +1,18 @@
 -- `walk::Walk::from_given` meets its contract.
-use mathlib.Core.Path.{ap, refl, subst, sym, _∙_, _≡_}
+use mathlib.Core.Path.{ap, subst, sym, _∙_, _≡_}
 use Prim.Native.Nat.{_-_, _≤_}
 use native.Mathlib.Omega.{arith}
 use lib.ListN.{length, set, take}
 use lib.Seq.{length-take-le, take-set-le, take-take}
 use borrow.Author.Needs.{needs}
 use Rattle.prefix.proofs.CarriedLaws.{knows-fewer}
-use Rattle.prefix.proofs.Places.{symbols-take}
 use Rattle.prefix.specs.Carried.{Knows, KnowsPrefixes}
 use Rattle.walk.proofs.MoveCases.{from-given, gone-last, gone-on, good-long, good-symbols}
 use Rattle.walk.proofs.Resuming.{Comes, comes-here, then-free, then-part}
-use Rattle.walk.specs.Moves.{free, goneBelow, moved, rowOf}
-use Rattle.walk.specs.declared.Standing.the-variants.{Down}
 use Rattle.walk.proofs.Walk.from_given.Statement.{statement}
+use Rattle.walk.specs.Moves.{free, moved, rowOf}
+use Rattle.walk.specs.declared.Standing.the-variants.{Down}
+use Rattle.words.proofs.Alphabet.{within-take}
 use Rattle.walk.proofs.Walk.from_given.Tie as tie
 
 inside : (s : tie.Start) → s .args .self .n ≤ length (s .args .self .row)
@@ -75,7 +75,7 @@ slice-aggregate-shorter c = sym (whole (start (c .before)))
 shorter-requires : tie.Need-shorter-requires
 shorter-requires c κs =
     let s = start (c .before) in
-    (omega (arith, whole s, s .pre .1 .sound .most), symbols-take (s .args .self .n) (s .args .self .row) (good-symbols (s .pre .1)), s .pre .3, s .pre .2)
+    (omega (arith, whole s, s .pre .1 .sound .most), within-take (s .args .self .n) (s .args .self .row) (good-symbols (s .pre .1)), s .pre .3, s .pre .2)
 
 descend-requires : tie.Need-descend-requires
 descend-requires c κs =

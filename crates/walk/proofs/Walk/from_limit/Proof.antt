@@ -1,20 +1,19 @@
 -- `walk::Walk::from_limit` meets its contract.
-use mathlib.Core.Bool.{Bool, false, true}
+use mathlib.Core.Bool.{false, true}
 use mathlib.Core.Path.{ap, refl, subst, sym, _∙_, _≡_}
 use Prim.Native.Nat.{suc, _+_, _-_, _≤_}
 use native.Mathlib.Omega.{arith}
 use lib.ListN.{length, take}
 use lib.Seq.{length-take-le, take-take}
-use borrow.Author.Needs.{needs}
 use Rattle.prefix.proofs.CarriedLaws.{knows-fewer}
-use Rattle.prefix.proofs.Places.{symbols-take}
 use Rattle.prefix.specs.Carried.{Knows, KnowsPrefixes}
-use Rattle.prefix.specs.Search.{Symbols}
 use Rattle.walk.proofs.MoveCases.{from-limit, good-long, good-symbols}
 use Rattle.walk.proofs.Resuming.{Comes, comes-here, then-free, then-part}
+use Rattle.walk.proofs.Walk.from_limit.Statement.{statement}
 use Rattle.walk.specs.Moves.{free, moved, rowOf}
 use Rattle.walk.specs.declared.Standing.the-variants.{Down, Up}
-use Rattle.walk.proofs.Walk.from_limit.Statement.{statement}
+use Rattle.words.proofs.Alphabet.{within-take}
+use Rattle.words.specs.Symbols.{Within}
 use Rattle.walk.proofs.Walk.from_limit.Tie as tie
 
 module _ (s : tie.Start) where
@@ -24,8 +23,8 @@ module _ (s : tie.Start) where
   whole : length (rowOf (s .args .self)) ≡ s .args .self .n
   whole = length-take-le (s .args .self .n) (s .args .self .row) inside
 
-  symbols : Symbols (rowOf (s .args .self))
-  symbols = symbols-take (s .args .self .n) (s .args .self .row) (good-symbols (s .pre .1))
+  symbols : Within 2 (rowOf (s .args .self))
+  symbols = within-take (s .args .self .n) (s .args .self .row) (good-symbols (s .pre .1))
 
 array-share-prefix-row : tie.Need-array-share-prefix-row
 array-share-prefix-row c = inside (c .before)

@@ -1,6 +1,6 @@
 -- `walk::Walk::go_on` meets its contract: by where the walk stands.
 use mathlib.Core.Logic.{inl, inr, _⊎_}
-use mathlib.Core.Path.{ap, refl, subst, sym, _∙_, _≡_}
+use mathlib.Core.Path.{refl, subst, sym, _∙_, _≡_}
 use Prim.Native.Nat.{ℕ, _-_, _≤_}
 use native.Mathlib.Omega.{arith}
 use lib.ListN.{length, take}
@@ -14,6 +14,8 @@ use Rattle.walk.specs.Course.{Good, GoodAt, before}
 use Rattle.walk.specs.Moves.{rules}
 use Rattle.walk.specs.declared.Standing.{Standing}
 use Rattle.walk.specs.declared.Standing.the-variants.{Down, Ended, Given, Limit, Up}
+use Rattle.refusal.specs.Verdicts.{mostStations}
+use Rattle.words.proofs.Booleans.{clash}
 use Rattle.walk.proofs.Walk.go_on.Statement.{statement}
 use Rattle.walk.proofs.Walk.go_on.Tie as tie
 
@@ -22,7 +24,7 @@ module _ (s : tie.Start) where
   good : (at : Standing) → s .args .self .at ≡ at → (at ≡ Ended → ⊥) → Good rules (s .args .self)
   good at e h = record { sound = s .pre .0 .sound; placed = go (s .pre .0 .placed) }
     where
-      go : (s .args .self .at ≡ Ended) ⊎ GoodAt (s .args .self .at) (s .args .self .n) (s .args .self .d) (s .args .self .row) → GoodAt (s .args .self .at) (s .args .self .n) (s .args .self .d) (s .args .self .row)
+      go : (s .args .self .at ≡ Ended) ⊎ GoodAt (s .args .self .at) (s .args .self) → GoodAt (s .args .self .at) (s .args .self)
       go (inl q) = absurd (h (sym e ∙ q))
       go (inr q) = q
 
@@ -30,7 +32,7 @@ module _ (s : tie.Start) where
   known-at at e = subst (λ t. Knows (take (before t (s .args .self .n)) (s .args .self .row)) (s .args .known)) e (s .pre .2)
 
   -- the prefixes of the symbols before place p
-  table-at : (p : ℕ) → p ≤ s .args .self .n → length (s .args .self .row) ≡ 64 → s .args .self .n ≤ 64 → KnowsPrefixes (take (p - 1) (s .args .self .row)) (s .args .prefixes .now)
+  table-at : (p : ℕ) → p ≤ s .args .self .n → length (s .args .self .row) ≡ mostStations → s .args .self .n ≤ mostStations → KnowsPrefixes (take (p - 1) (s .args .self .row)) (s .args .prefixes .now)
   table-at p h l few =
       let w = s .args .self in
       let size : length (take (w .n) (w .row)) ≡ w .n = length-take-le (w .n) (w .row) (omega arith) in
@@ -40,13 +42,13 @@ from-limit-requires : tie.Need-from-limit-requires
 from-limit-requires c κs =
     let s = c .before .before .before in
     let e = c .enum-told .given .1 in
-    (e, good s Limit e (λ z. let y : _≡_ {A = ℕ} 0 1 = cc in omega arith), s .pre .1, known-at s Limit e)
+    (e, good s Limit e (λ z. clash (cc)), s .pre .1, known-at s Limit e)
 
 descend-requires : tie.Need-descend-requires
 descend-requires c κs =
     let s = c .before .before .before .before in
     let e = c .before .at .given .1 in
-    let g = good s (Down _) e (λ z. let y : _≡_ {A = ℕ} 0 1 = cc in omega arith) in (
+    let g = good s (Down _) e (λ z. clash (cc)) in (
       e,
       g,
       table-at s _ (good-down g _ e) (good-long g) (g .sound .most),
@@ -57,13 +59,13 @@ ascend-requires : tie.Need-ascend-requires
 ascend-requires c κs =
     let s = c .before .before .before .before in
     let e = c .before .at2 .given .1 in
-    (e, good s (Up _) e (λ z. let y : _≡_ {A = ℕ} 0 1 = cc in omega arith), known-at s (Up _) e)
+    (e, good s (Up _) e (λ z. clash (cc)), known-at s (Up _) e)
 
 from-given-requires : tie.Need-from-given-requires
 from-given-requires c κs =
     let s = c .before .before .before in
     let e = c .enum-told2 .given .1 in
-    (e, good s Given e (λ z. let y : _≡_ {A = ℕ} 0 1 = cc in omega arith), s .pre .1, known-at s Given e)
+    (e, good s Given e (λ z. clash (cc)), s .pre .1, known-at s Given e)
 
 returns-5 : tie.Need-returns-5
 returns-5 c = let s = c .before .before .before in ended-resumes (s .args .self) (s .args .left) _ (c .enum-told3 .given .1) refl refl refl

@@ -7,33 +7,31 @@ use lib.ListN.{length, take}
 use lib.Seq.{length-take-le, take-take}
 use borrow.Author.Needs.{needs}
 use Rattle.prefix.proofs.CarriedLaws.{knows-fewer}
-use Rattle.prefix.proofs.Places.{symbols-take}
 use Rattle.prefix.specs.Carried.{Knows, KnowsPrefixes}
-use Rattle.prefix.specs.Search.{Symbols}
+use Rattle.refusal.specs.Verdicts.{mostStations}
 use Rattle.walk.proofs.Walk.known.Statement.{statement}
+use Rattle.words.proofs.Alphabet.{within-take}
+use Rattle.words.specs.Symbols.{Within}
 use Rattle.walk.proofs.Walk.known.Tie as tie
 
 module _ (s : tie.Start) where
   abbrev row : List ℕ
   row = s .args .self .row
 
-  row-64 : length row ≡ 64
-  row-64 = search needs
-
   -- the first m symbols
   module _ (m : ℕ) (h : m ≤ s .args .self .n) where
     inside : m ≤ length row
-    inside = omega (arith, row-64, s .pre .0 .most)
+    inside = omega (arith, s .pre .0 .long, s .pre .0 .most)
 
     front-length : length (take m row) ≡ m
     front-length = length-take-le m row inside
 
-    asks-read : (length (take m row) ≤ 64) × Symbols (take m row) × KnowsPrefixes (take m row) (s .args .prefixes .now)
+    asks-read : (length (take m row) ≤ mostStations) × Within 2 (take m row) × KnowsPrefixes (take m row) (s .args .prefixes .now)
     asks-read =
         let n = s .args .self .n in
-        let size : length (take n row) ≡ n = length-take-le n row (omega (arith, row-64, s .pre .0 .most)) in (
+        let size : length (take n row) ≡ n = length-take-le n row (omega (arith, s .pre .0 .long, s .pre .0 .most)) in (
           omega (arith, front-length, s .pre .0 .most),
-          symbols-take m row (s .pre .0 .symbols),
+          within-take m row (s .pre .0 .symbols),
           subst (λ a. KnowsPrefixes a (s .args .prefixes .now)) (take-take m n row h) (knows-fewer (take n row) (s .args .prefixes .now) m (omega (arith, size)) (s .pre .1)),
         )
 

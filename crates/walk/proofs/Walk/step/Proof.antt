@@ -1,5 +1,5 @@
 -- `walk::Walk::step` meets its contract.
-use mathlib.Core.Path.{ap, refl, sym, _∙_, _≡_}
+use mathlib.Core.Path.{ap, sym, _∙_, _≡_}
 use Prim.Native.Nat.{ℕ, _≤_}
 use native.Mathlib.Omega.{arith}
 use lib.ListN.{length, take}
@@ -16,6 +16,7 @@ use Rattle.walk.specs.declared.Reached.{Reached}
 use Rattle.walk.specs.declared.Said.the-variants.{Nothing}
 use Rattle.walk.specs.declared.Stepped.{Stepped}
 use Rattle.walk.specs.declared.Walk.{Walk}
+use Rattle.refusal.specs.Verdicts.{mostStations}
 use Rattle.walk.proofs.Walk.step.Statement.{statement}
 use Rattle.walk.proofs.Walk.step.Tie as tie
 
@@ -39,14 +40,14 @@ module _ (c : tie.Else1 Inv-loop μ-loop) where
   abbrev start : tie.Start Inv-loop μ-loop
   start = c .before .before
 
-  row-64 : length (start .args .self .row) ≡ 64
-  row-64 = search needs
+  long : length (start .args .self .row) ≡ mostStations
+  long = search needs
 
   fitting : Fitting (start .args .self)
-  fitting = record-fitting (start .args .self) (sym (c .before .fit-record .ensures) ∙ not-false _ (c .if1 .left))
+  fitting = record-fitting (start .args .self) (sym (c .before .fit-record .ensures) ∙ not-false _ (c .if1 .left)) long
 
   inside : start .args .self .n ≤ length (start .args .self .row)
-  inside = omega (arith, row-64, fitting .most)
+  inside = omega (arith, long, fitting .most)
 
   whole : length (rowOf (start .args .self)) ≡ start .args .self .n
   whole = length-take-le (start .args .self .n) (start .args .self .row) inside
@@ -78,7 +79,7 @@ returns-2 c =
 loop-holds : tie.Need-loop-holds Inv-loop μ-loop
 loop-holds c =
     let e = c .before .before .before .before .before .before .before in
-    going-first (start e .args .allowance) (start e .args .self) (sym (tested (c .before)) ∙ not-false _ (c .if2 .left)) (row-64 e) _ _ (c .before .before .before .before .prefixes-of .ensures) (c .before .before .known .ensures)
+    going-first (start e .args .allowance) (start e .args .self) (sym (tested (c .before)) ∙ not-false _ (c .if2 .left)) (long e) _ _ (c .before .before .before .before .prefixes-of .ensures) (c .before .before .known .ensures)
 
 go-on-requires : tie.Need-go-on-requires Inv-loop μ-loop
 go-on-requires c κs = let g = c .before .loop .inv in (g .ready, g .table, g .knows)

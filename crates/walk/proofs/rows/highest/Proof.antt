@@ -5,10 +5,8 @@ use Prim.Native.Nat.{ℕ, _-_, _≤_}
 use native.Mathlib.Omega.{arith}
 use lib.ListN.{drop, length}
 use borrow.Author.Needs.{needs}
-use Rattle.prefix.proofs.Places.{taken}
-use Rattle.walk.proofs.RowTests.{HighestSo, highest-end, highest-keep, highest-raise, highest-start}
-use Rattle.walk.specs.Totals.{now}
 use Rattle.walk.proofs.rows.highest.Statement.{statement}
+use Rattle.words.proofs.HighestSymbol.{HighestSo, highest-end, highest-keep, highest-raise, highest-start}
 use Rattle.walk.proofs.rows.highest.Tie as tie
 
 record Inv (s : List ℕ) (most i : ℕ) : Type 0 where

@@ -1,5 +1,5 @@
 -- `prefix::carried::Known::begins` meets its contract.
-use mathlib.Core.List.{List, []}
+use mathlib.Core.List.{List}
 use mathlib.Core.Path.{ap, sym, _∙_, _≡_}
 use Prim.Native.Nat.{ℕ, _-_, _<_, _≤_}
 use native.Mathlib.Nat.{pos-of-ne-zero}
@@ -7,14 +7,16 @@ use native.Mathlib.Omega.{arith}
 use lib.ListN.{length, take}
 use lib.Seq.{length-take-le}
 use borrow.Author.Needs.{needs}
-use Rattle.density.proofs.Binary.{binary-sum}
+use Rattle.density.proofs.Begun.{begins-empty}
+use Rattle.density.proofs.Binary.{binary-sum, within-binary}
 use Rattle.density.specs.Necklaces.{begins}
-use Rattle.prefix.proofs.Begun.{begins-empty}
-use Rattle.prefix.proofs.Places.{asks-none, asks-period, symbols-binary, symbols-take}
+use Rattle.prefix.proofs.Places.{asks-none, asks-period}
 use Rattle.prefix.proofs.Search.{asks-begins}
-use Rattle.prefix.specs.Search.{Symbols, asks, continues}
-use Rattle.words.specs.Symbols.{sum}
+use Rattle.refusal.specs.Verdicts.{mostStations}
 use Rattle.prefix.proofs.carried.Known.begins.Statement.{statement}
+use Rattle.prefix.specs.Search.{asks, continues}
+use Rattle.words.proofs.Alphabet.{within-take}
+use Rattle.words.specs.Symbols.{Within, sum}
 use Rattle.prefix.proofs.carried.Known.begins.Tie as tie
 
 -- the first t symbols
@@ -23,14 +25,14 @@ begun c = take (c .args .t) (c .args .t4)
 
 module _ (c : tie.Start) where
   begun-length : length (begun c) ≡ c .args .t
-  begun-length = let l : length (c .args .t4) ≡ 64 = search needs in length-take-le (c .args .t) (c .args .t4) (omega arith)
+  begun-length = let l : length (c .args .t4) ≡ mostStations = search needs in length-take-le (c .args .t) (c .args .t4) (omega arith)
 
-  begun-symbols : Symbols (begun c)
-  begun-symbols = symbols-take (c .args .t) (c .args .t4) (c .pre .4)
+  begun-symbols : Within 2 (begun c)
+  begun-symbols = within-take (c .args .t) (c .args .t4) (c .pre .4)
 
   -- what the contract asks, by the search
   asked : begins (c .args .n) (c .args .d) (begun c) ≡ asks (c .args .n) (c .args .d) (begun c)
-  asked = sym (asks-begins (c .args .n) (c .args .d) (begun c) (c .pre .0) (c .pre .2) (omega (arith, begun-length, c .pre .3)) (symbols-binary (begun c) begun-symbols))
+  asked = sym (asks-begins (c .args .n) (c .args .d) (begun c) (c .pre .0) (c .pre .2) (omega (arith, begun-length, c .pre .3)) (within-binary (begun c) begun-symbols))
 
 returns : tie.Need-returns
 returns c =
@@ -59,7 +61,7 @@ search-from-requires c κs =
     let s = c .before .before .before .before .before in
     let v = s .pre .5 in
     let size = begun-length s in
-    let few : sum (begun s) ≤ length (begun s) = binary-sum (symbols-binary (begun s) (begun-symbols s)) in
+    let few : sum (begun s) ≤ length (begun s) = binary-sum (within-binary (begun s) (begun-symbols s)) in
     (pos-of-ne-zero (c .before .before .before .if2 .left), omega (arith, v .within, size), s .pre .3, s .pre .1, v .sums, omega (arith, v .sums, few, size), s .pre .4, v .leads)
 
 returns-4 : tie.Need-returns-4

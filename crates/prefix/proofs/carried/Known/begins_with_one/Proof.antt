@@ -8,15 +8,17 @@ use native.Mathlib.Omega.{arith}
 use lib.ListN.{getD, length, take}
 use lib.Seq.{getD-take}
 use borrow.Author.Needs.{needs}
-use Rattle.density.proofs.Binary.{Binary, binary-sum}
+use Rattle.density.proofs.Binary.{Binary, binary-sum, within-binary}
+use Rattle.density.proofs.Counts.{front-sum}
 use Rattle.density.specs.Necklaces.{begins}
-use Rattle.prefix.proofs.Carrying.{by-last, front-length, front-sum, some-period, up-asked, up-forced}
-use Rattle.prefix.proofs.Places.{symbols-binary, symbols-take}
-use Rattle.prefix.proofs.Product.{lead-up}
-use Rattle.prefix.specs.Search.{Symbols, fits}
-use Rattle.words.specs.Scan.{Leading, coded, next, scan, _▹_}
-use Rattle.words.specs.Symbols.{sum}
+use Rattle.prefix.proofs.OneMoreOne.{some-period, up-asked, up-forced}
 use Rattle.prefix.proofs.carried.Known.begins_with_one.Statement.{statement}
+use Rattle.prefix.specs.Search.{fits}
+use Rattle.words.proofs.AllButLast.{by-last, front-length}
+use Rattle.words.proofs.Alphabet.{within-take}
+use Rattle.words.proofs.LeadingZeros.{lead-up}
+use Rattle.words.specs.Scan.{Leading, coded, next, scan, _▹_}
+use Rattle.words.specs.Symbols.{Within, sum}
 use Rattle.prefix.proofs.carried.Known.begins_with_one.Tie as tie
 
 -- all before the last symbol
@@ -30,11 +32,11 @@ module _ (c : tie.Start) where
   size : length (front c) ≡ length (c .args .a .now) - 1
   size = front-length (c .args .a .now) some
 
-  front-symbols : Symbols (front c)
-  front-symbols = symbols-take (length (c .args .a .now) - 1) (c .args .a .now) (c .pre .4)
+  front-symbols : Within 2 (front c)
+  front-symbols = within-take (length (c .args .a .now) - 1) (c .args .a .now) (c .pre .4)
 
   front-binary : Binary (front c)
-  front-binary = symbols-binary (front c) front-symbols
+  front-binary = within-binary (front c) front-symbols
 
   is : front c ▹ 1 ≡ c .args .a .now
   is = ap (λ b. front c ▹ b) (sym (c .pre .5)) ∙ by-last (c .args .a .now) some

@@ -3,11 +3,12 @@ use Prim.Native.Nat.{_-_, _≤_}
 use native.Mathlib.Omega.{arith}
 use lib.ListN.{length, take}
 use borrow.Author.Needs.{needs}
-use Rattle.density.proofs.Binary.{binary-sum}
-use Rattle.prefix.proofs.Carrying.{front-length, front-sum}
-use Rattle.prefix.proofs.Places.{symbols-binary, symbols-take}
-use Rattle.words.specs.Symbols.{sum}
+use Rattle.density.proofs.Binary.{binary-sum, within-binary}
+use Rattle.density.proofs.Counts.{front-sum}
 use Rattle.prefix.proofs.carried.Known.longer.Statement.{statement}
+use Rattle.words.proofs.AllButLast.{front-length}
+use Rattle.words.proofs.Alphabet.{within-take}
+use Rattle.words.specs.Symbols.{sum}
 use Rattle.prefix.proofs.carried.Known.longer.Tie as tie
 
 period-after-requires : tie.Need-period-after-requires
@@ -18,14 +19,14 @@ period-after-requires c κs =
     (s .pre .0, omega (arith, size, s .pre .3 .within), λ h. s .pre .3 .scans (omega (arith, size)))
 
 cast-ones : tie.Need-cast-ones
-cast-ones c = let s = c .before .before .before in omega (arith, s .pre .2 (length (s .args .a .now) - 1))
+cast-ones c = let s = c .before .before .before in omega (arith, s .pre .2 (length (s .args .a .now) - 1) (omega (arith, s .pre .0)))
 
 add-ones : tie.Need-add-ones
 add-ones c =
     let s = c .before .before .before .before in
     let a = s .args .a .now in
-    let few : sum (take (length a - 1) a) ≤ length (take (length a - 1) a) = binary-sum (symbols-binary _ (symbols-take (length a - 1) a (s .pre .2))) in
-    omega (arith, s .pre .2 (length a - 1), few, front-length a (s .pre .0), s .pre .3 .sums)
+    let few : sum (take (length a - 1) a) ≤ length (take (length a - 1) a) = binary-sum (within-binary _ (within-take (length a - 1) a (s .pre .2))) in
+    omega (arith, s .pre .2 (length a - 1) (omega (arith, s .pre .0)), few, front-length a (s .pre .0), s .pre .3 .sums)
 
 zeros-after-requires : tie.Need-zeros-after-requires
 zeros-after-requires c κs = search needs

@@ -1,17 +1,19 @@
 -- `prefix::carried::Known::shorter` meets its contract.
 use mathlib.Core.List.{List}
-use mathlib.Core.Path.{subst, sym, _≡_}
-use Prim.Native.Nat.{ℕ, _-_, _<_, _≤_}
+use mathlib.Core.Path.{subst, sym}
+use Prim.Native.Nat.{ℕ, _-_, _<_}
 use native.Mathlib.Nat.{pos-of-ne-zero}
 use native.Mathlib.Omega.{arith}
 use lib.ListN.{getD, length, take}
 use lib.Seq.{take-all}
 use borrow.Author.Needs.{needs}
-use Rattle.prefix.proofs.Carrying.{front-length, front-sum, lead-all, lead-some}
+use Rattle.density.proofs.Counts.{front-sum}
+use Rattle.prefix.proofs.carried.Known.shorter.Statement.{statement}
 use Rattle.prefix.specs.Carried.{Knows, KnowsPrefixes}
 use Rattle.prefix.specs.declared.carried.Known.{Known}
+use Rattle.words.proofs.AllButLast.{front-length}
+use Rattle.words.proofs.LeadingZeros.{lead-all, lead-some}
 use Rattle.words.specs.Scan.{Leading}
-use Rattle.prefix.proofs.carried.Known.shorter.Statement.{statement}
 use Rattle.prefix.proofs.carried.Known.shorter.Tie as tie
 
 module _ (a prefixes : List ℕ) (k : Known) (h : 0 < length a) (q : KnowsPrefixes a prefixes) (e : Knows a k) where
@@ -38,7 +40,7 @@ cast-period : tie.Need-cast-period
 cast-period c = let s = c .before .before in omega (arith, s .pre .0, s .pre .3 .within (length (s .args .a .now) - 1))
 
 cast-ones : tie.Need-cast-ones
-cast-ones c = let s = c .before .before .before in omega (arith, s .pre .1 (length (s .args .a .now) - 1))
+cast-ones c = let s = c .before .before .before in omega (arith, s .pre .1 (length (s .args .a .now) - 1) (omega (arith, some (c .before .before))))
 
 sub-ones : tie.Need-sub-ones
 sub-ones c = let s = c .before .before .before .before in omega (arith, s .pre .2 .sums, front-sum (s .args .a .now) (some (c .before .before .before)))

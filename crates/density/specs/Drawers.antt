@@ -1,0 +1,52 @@
+-- A drawer of a kind and a limit, (n, d, kind, limit): what is refused of them.
+use mathlib.Core.List.{List}
+use mathlib.Core.Logic.{_⊎_}
+use mathlib.Core.Path.{_≡_}
+use Prim.Native.Nat.{ℕ, _<_, _≤_}
+use lib.ListN.{length}
+use lib.Dec.{eqb, leb}
+use Rattle.words.specs.Claims.{FirstOther}
+use Rattle.words.specs.Symbols.{Within, firstWrong}
+use Rattle.refusal.specs.declared.Refusal.the-variants.{Stations, Holes, Kind, Limit, Symbol}
+use Rattle.refusal.specs.Conditions.{Conditions, NoStations, no-more, when}
+use Rattle.refusal.specs.Verdicts.{Verdict, accepted, refused, need, areStations, mostStations}
+use Rattle.density.specs.Necklaces.{isKind}
+use Rattle.density.specs.declared.drawers.Checked.{Checked}
+
+-- "Orders. Open: 1, 2, 5, 4, 3."
+unfoldable pub openVerdict : ℕ → ℕ → ℕ → List ℕ → Verdict
+openVerdict n d kind limit =
+    need (areStations n) Stations
+    (need (leb d n) Holes
+    (need (isKind kind) Kind
+    (need (eqb (length limit) n) Limit
+    (need (eqb (firstWrong 2 limit) 0) (Symbol (firstWrong 2 limit)) accepted))))
+
+-- the verdict that each answer of a check tells
+abbrev pub checkedVerdict : Checked → Verdict
+checkedVerdict Checked.Accepted = accepted
+checkedVerdict (Checked.Refused r) = refused r
+
+-- ---- its conditions as plain facts
+
+-- "5. kind not 1 or 2"
+abbrev pub NoKind : ℕ → Type 0
+NoKind kind = (kind ≡ 1 → ⊥) × (kind ≡ 2 → ⊥)
+
+-- 1, 2, 5, 4, 3
+abbrev pub openConditions : ℕ → ℕ → ℕ → List ℕ → Conditions
+openConditions n d kind limit =
+    when (NoStations n) Stations
+    (when (n < d) Holes
+    (when (NoKind kind) Kind
+    (when (length limit ≡ n → ⊥) Limit
+    (when (FirstOther 2 limit (firstWrong 2 limit)) (Symbol (firstWrong 2 limit)) no-more))))
+
+-- none of the conditions for the input
+pub record NoCondition (n d kind : ℕ) (limit : List ℕ) : Type 0 where
+  pub some : 1 ≤ n
+  pub most : n ≤ mostStations
+  pub holes : d ≤ n
+  pub kinds : (kind ≡ 1) ⊎ (kind ≡ 2)
+  pub long : length limit ≡ n
+  pub symbols : Within 2 limit

@@ -1,0 +1,4 @@
+-- The drawer's book, and what it names and takes in all.
+pub mod Listing
+pub mod Totals
+pub mod Claims
