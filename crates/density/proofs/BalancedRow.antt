@@ -1,4 +1,4 @@
--- The balanced row: its sums, its parts, its rotations; it is a necklace (T3).
+-- The balanced row: its sums, its parts, its rotations; it is a necklace.
 use mathlib.Core.List.{_++_, _∷_}
 use mathlib.Core.Path.{ap, refl, sym, _∙_, _≡_}
 use Prim.Native.Nat.{suc, zero, ℕ, _*_, _+_, _-_, _/_, _<_, _≤_}
@@ -75,7 +75,7 @@ module _ (n d : ℕ) (p : 0 < n) where
   pub balanced-rotation : (i : ℕ) → i ≤ n → rotation i (balanced n d) ≡ balancedFrom n d i n
   balanced-rotation i h = rotated i (n - i) (omega arith)
 
-  -- T3
+  -- it is a necklace
   pub balanced-necklace : Necklace (balanced n d)
   balanced-necklace = index→necklace (balanced n d) above
     where

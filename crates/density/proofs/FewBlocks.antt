@@ -1,4 +1,4 @@
--- The rule for few holes gives the balanced row (T5): where its blocks start, and what they hold.
+-- The rule for few holes gives the balanced row: where its blocks start, and what they hold.
 use mathlib.Core.List.{List, _++_, _∷_}
 use mathlib.Core.Path.{ap, refl, _≡_}
 use Prim.Native.Nat.{suc, zero, ℕ, _%_, _*_, _+_, _-_, _/_, _<_, _≤_}

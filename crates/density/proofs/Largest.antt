@@ -1,4 +1,4 @@
--- The balanced row is the largest necklace of its length and density (T4).
+-- The balanced row is the largest necklace of its length and density.
 use mathlib.Core.List.{List, [], _++_}
 use mathlib.Core.Path.{subst, sym, _≡_}
 use Prim.Native.Nat.{ℕ, _<_, _≤_}

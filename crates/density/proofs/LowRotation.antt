@@ -1,4 +1,4 @@
--- Every row has a rotation at or below the balanced row of its length and sum (T2, the cycle lemma).
+-- Every row has a rotation at or below the balanced row of its length and sum (the cycle lemma).
 use mathlib.Core.List.{List}
 use mathlib.Core.Logic.{inl, inr, _⊎_}
 use mathlib.Core.Path.{ap, subst, sym, _∙_, _≡_}
@@ -97,7 +97,7 @@ low-sums r = record { i = i; inside = m .inside; low = λ j h. pick j h (le-or (
         let ki : k ≤ i = omega arith in
         omega (arith, ap (λ x. x * n) (around-sum r i j k (m .inside) ki e), m .best k (omega (arith, m .inside)), ap (λ x. x * sum r) e)
 
--- T2
+-- the row has such a rotation
 pub record Lowered (r : List ℕ) : Type 0 where
   pub i : ℕ
   pub inside : i < length r

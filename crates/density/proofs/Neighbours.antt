@@ -1,4 +1,4 @@
--- W8: of two neighbours among the necklaces of (n, d), one is a Lyndon word.
+-- Of two neighbours among the necklaces of (n, d), one is a Lyndon word.
 use mathlib.Core.Bool.{or-true, true, _||_}
 use mathlib.Core.List.{List, List·Memᴰ, List·Memᴰ·head, List·Memᴰ·tail, Memᴰ·append-right, [], append-assoc, append-nil, _++_, _∷_}
 use mathlib.Core.Logic.{inl, inr, _⊎_}
@@ -62,7 +62,7 @@ module _ (n d : ℕ) (g : List ℕ) (l : Lyndon g) (j : ℕ) (k : Member n d (po
   unfolding power
   last = power-snoc (suc j) g
 
-  -- T6
+  -- the largest of the whole is a power of the part's largest
   is-top : g ≡ v → power (suc (suc j)) g ≡ balanced n d
   unfolding v
   is-top e = ap (power (suc (suc j))) e ∙ sym (scaled (suc (suc j)) (length g) (sum g) (omega arith) (lyndon-size l)) ∙ rw (← size, ← count)

@@ -1,4 +1,4 @@
--- The balanced row of k n symbols and density k d is the k-th power of that of n symbols and density d (T6).
+-- The balanced row of k n symbols and density k d is the k-th power of that of n symbols and density d.
 use mathlib.Core.List.{_++_}
 use mathlib.Core.Path.{ap, refl, _∙_, _≡_}
 use Prim.Native.Nat.{suc, zero, ℕ, _*_, _+_, _/_, _<_}

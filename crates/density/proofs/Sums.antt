@@ -1,4 +1,4 @@
--- Rows compared by the sums of their beginnings (T1), and floors.
+-- Rows compared by the sums of their beginnings, and floors.
 use mathlib.Core.List.{List, [], _∷_}
 use mathlib.Core.Path.{refl, _≡_}
 use Prim.Native.Nat.{Ordering, suc, ℕ, _+_, _/_, _<_, _≤_}

@@ -1,4 +1,4 @@
--- P6 and P7 as a test: what may follow a Lyndon word in a necklace.
+-- What may follow a Lyndon word in a necklace.
 use mathlib.Core.Bool.{false, true, _&&_}
 use mathlib.Core.List.{List, [], _∷_}
 use mathlib.Core.Path.{ap, refl, sym, _∙_, _≡_}

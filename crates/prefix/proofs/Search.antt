@@ -1,4 +1,4 @@
--- The search answers the prefix question (P8).
+-- The search answers the prefix question.
 use mathlib.Core.Bool.{false≢true, or-true, true, _&&_}
 use mathlib.Core.List.{List, [], _++_, _∷_}
 use mathlib.Core.Logic.{inl, inr, _⊎_}

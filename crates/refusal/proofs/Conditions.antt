@@ -10,6 +10,7 @@ use Rattle.refusal.proofs.Stations.{Sized, stations→, →stations}
 use Rattle.refusal.specs.Conditions.{AcceptedExactly, Conditions, FirstOf, NoStations, OnlyUnder, no-more, when}
 use Rattle.refusal.specs.Verdicts.{Verdict, accepted, areStations, mostStations, need, refused}
 use Rattle.refusal.specs.declared.Refusal.{Refusal}
+use Rattle.words.proofs.Booleans.{clash}
 
 -- a test fails exactly where the condition holds
 abbrev pub Tells : Bool → Type 0 → Type 0
@@ -65,7 +66,7 @@ stations-tell n = (λ e. outside e (le-or n mostStations), λ e. inside (station
 -- ---- what follows
 
 refused≢accepted : {r : Refusal} → refused r ≡ accepted → ⊥
-refused≢accepted e = let z : _≡_ {A = ℕ} 0 1 = cc in omega arith
+refused≢accepted e = clash (cc)
 
 -- the tests of a verdict that accepts have passed
 pub need→ : (b : Bool) (r : Refusal) (v : Verdict) → need b r v ≡ accepted → (b ≡ true) × (v ≡ accepted)

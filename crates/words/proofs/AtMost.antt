@@ -1,4 +1,4 @@
--- At or below: a total order on rows (O1).
+-- At or below: a total order on rows.
 use mathlib.Core.List.{List, [], append-cancel-left, append-nil, _++_, _∷_}
 use mathlib.Core.Logic.{inl, inr, _⊎_}
 use mathlib.Core.Path.{ap, refl, sym, _≡_}

@@ -1,4 +1,4 @@
--- The dictionary order as a family to match on, and what each answer of the three-way comparison means (O1, O2).
+-- The dictionary order as a family to match on, and what each answer of the three-way comparison means.
 use mathlib.Core.List.{List, [], _++_, _∷_}
 use mathlib.Core.Logic.{inl, inr, _⊎_}
 use mathlib.Core.Path.{ap, refl, _≡_}
@@ -146,7 +146,7 @@ compare-self x = go (compare-means x x)
     go (is-eq e) = refl
     go (is-gt h) = absurd (lt-irrefl x h)
 
--- O2: a common beginning doesn't count
+-- a common beginning doesn't count
 pub cmp-under : (p a b : List ℕ) → cmp (p ++ a) (p ++ b) ≡ cmp a b
 unfolding cmp
 cmp-under [] a b = refl

@@ -1,4 +1,4 @@
--- The first difference of two rows: what follows it doesn't matter (O2, O3).
+-- The first difference of two rows: what follows it doesn't matter.
 use mathlib.Core.List.{List, [], _++_, _∷_}
 use mathlib.Core.Logic.{inl, inr, _⊎_}
 use mathlib.Core.Path.{ap, refl, _≡_}
@@ -51,7 +51,7 @@ more-or : {x : ℕ} {xs ys : List ℕ} → More xs ys ⊎ (_≪_ xs ys) → More
 more-or {x} (inl m) = inl (record { c = m .c; z = m .z; is = ap {B = List ℕ} (λ w. x ∷ w) (m .is) })
 more-or (inr h) = inr (in-tail h)
 
--- O3: a row below another begins it, or differs from it at a place within both
+-- a row below another begins it, or differs from it at a place within both
 pub ≺-cases : {a b : List ℕ} → a ≺ b → More a b ⊎ (_≪_ a b)
 ≺-cases (short {y = y} {ys = ys}) = inl (record { c = y; z = ys; is = refl })
 ≺-cases (here h) = inr (at-head h)

@@ -1,4 +1,4 @@
--- What may follow a Lyndon word in a necklace (P6, P7).
+-- What may follow a Lyndon word in a necklace.
 use mathlib.Core.List.{List, append-assoc, append-nil, _++_, _∷_}
 use mathlib.Core.Logic.{inl, inr, _⊎_}
 use mathlib.Core.Path.{ap, subst, sym, _∙_, _≡_}
@@ -13,7 +13,7 @@ use Rattle.words.proofs.Power.{power}
 use Rattle.words.proofs.PowerOrder.{Necklace, lyndon→necklace, power-necklace}
 use Rattle.words.proofs.Root.{Root, root}
 
--- ---- P6: in a necklace, no rotation of what follows a Lyndon word is below it
+-- ---- in a necklace, no rotation of what follows a Lyndon word is below it
 
 module _ (g d e : List ℕ) (l : Lyndon g) (some : 0 < length e) (s : Necklace (g ++ (d ++ e))) where
   -- the rotation that begins at e
@@ -39,7 +39,7 @@ module _ (g d e : List ℕ) (l : Lyndon g) (some : 0 < length e) (s : Necklace (
       go (is-eq p) = rw (← p) (≼-append g d)
       go (is-gt h) = absurd (below (≺-cases h))
 
--- ---- P7: a Lyndon word and a necklace not below it
+-- ---- a Lyndon word and a necklace not below it
 
 -- a Lyndon word that is not above a power of another is not above that one
 pub root-above : {g u : List ℕ} → Lyndon g → Lyndon u → (k : ℕ) → g ≼ power k u → g ≼ u

@@ -17,7 +17,7 @@ ByRotations w = (a : ℕ) (x : List ℕ) (b : ℕ) (y : List ℕ) → w ≡ (a �
 abbrev pub BySuffixes : List ℕ → Type 0
 BySuffixes w = (a : ℕ) (x : List ℕ) (b : ℕ) (y : List ℕ) → w ≡ (a ∷ x) ++ (b ∷ y) → w ≺ (b ∷ y)
 
--- ---- L1
+-- ---- by rotations exactly if by suffixes
 
 pub suffixes→rotations : (w : List ℕ) → BySuffixes w → ByRotations w
 suffixes→rotations w s a x b y e = ≺-trans (s a x b y e) (longer (b ∷ y) a x)
@@ -66,7 +66,7 @@ suffix-differs {w} l x y e h k = go (≺-cases (suffix l x y e h k))
     go (inl m) = absurd (omega (arith, simp length-append at (ap length e), simp length-append at (ap length (m .is))))
     go (inr d) = d
 
--- ---- L3: u ≺ v, both Lyndon: u v is a Lyndon word, below v
+-- ---- u ≺ v, both Lyndon: u v is a Lyndon word, below v
 
 pub join-below : {u v : List ℕ} → Lyndon u → Lyndon v → u ≺ v → (u ++ v) ≺ v
 join-below {u} {v} lu lv h = go (≺-cases h)

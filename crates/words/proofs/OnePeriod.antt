@@ -64,7 +64,7 @@ power-of-pre {a} q =
 pub pre-begins : {a : List ℕ} {p : ℕ} → Pre a p → (r : List ℕ) × Necklace (a ++ r)
 pre-begins q = let t = power-of-pre q in (t .z, subst Necklace (t .is) (power-necklace (q .lyn) (t .k)))
 
--- P4 and P5 both ways
+-- what the pass finds, both ways
 pub scan-nothing : (b : ℕ) (bs : List ℕ) → (scan (b ∷ bs) ≡ barred) ↔ ((r : List ℕ) → Necklace ((b ∷ bs) ++ r) → ⊥)
 scan-nothing b bs = go (scan-is b bs)
   where

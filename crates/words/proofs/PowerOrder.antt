@@ -21,7 +21,7 @@ lyndon→necklace l [] y e = equal (e ∙ sym (append-nil y))
 lyndon→necklace l (a ∷ x) [] e = equal (e ∙ append-nil (a ∷ x))
 lyndon→necklace {w} l (a ∷ x) (b ∷ y) e = lower (suffixes→rotations w (l .least) a x b y e)
 
--- ---- O4: powers keep the order of rows of one length
+-- ---- powers keep the order of rows of one length
 
 pub power-mono : (k : ℕ) {u v : List ℕ} → length u ≡ length v → u ≼ v → power k u ≼ power k v
 unfolding power
@@ -76,7 +76,7 @@ rotate-power {u} {x} {y} {k} c =
     let slid : power (c .j + c .i) u ++ c .p ≡ c .p ++ power (c .j + c .i) (c .q ++ c .p) = ap (λ w. power (c .j + c .i) w ++ c .p) (c .whole) ∙ sym (power-slide (c .j + c .i) (c .p) (c .q)) in
     mid ∙ ap (λ w. c .q ++ w) slid ∙ sym (append-assoc (c .q) (c .p) (power (c .j + c .i) (c .q ++ c .p))) ∙ ap (λ t. power t (c .q ++ c .p)) (sym (c .copies))
 
--- ---- L5: a power of a Lyndon word is a necklace
+-- ---- a power of a Lyndon word is a necklace
 
 pub power-necklace : {u : List ℕ} → Lyndon u → (k : ℕ) → Necklace (power k u)
 power-necklace l k x [] e = equal (e ∙ append-nil x)

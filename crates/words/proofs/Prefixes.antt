@@ -1,4 +1,4 @@
--- Prefixes of the powers of a Lyndon word, one symbol longer: P1, P2, P3.
+-- Prefixes of the powers of a Lyndon word, one symbol longer.
 use mathlib.Core.List.{List, [], append-assoc, append-nil, _++_, _∷_}
 use mathlib.Core.Logic.{inl, inr, _⊎_}
 use mathlib.Core.Path.{ap, refl, subst, sym, _∙_, _≡_}
@@ -58,7 +58,7 @@ next-is {a} {p} q = go (q .z) refl
         let at : getD a (length a - p) 0 ≡ c = ap (λ r. getD r (length a - p) 0) (q .back ∙ ap (λ r. q .s ++ r) e) ∙ getD-at (q .s) c z 0 (length a - p) place in
         record { rest = z; is = e ∙ ap (λ r. r ∷ z) (sym at) }
 
--- ---- P1: the period goes on
+-- ---- the period goes on
 
 pub goes-on : {a : List ℕ} {p : ℕ} → Pre a p → Pre (a ▹ next p a) p
 goes-on {a} {p} q = record {
@@ -77,7 +77,7 @@ goes-on {a} {p} q = record {
     n : Next q
     n = next-is q
 
--- ---- P2: a higher symbol makes a Lyndon word
+-- ---- a higher symbol makes a Lyndon word
 
 -- a beginning of a Lyndon word, and then a higher symbol
 pub raised : {u : List ℕ} → Lyndon u → (v : List ℕ) (c : ℕ) (z : List ℕ) → u ≡ v ++ (c ∷ z) → (b : ℕ) → c < b → Lyndon (v ▹ b)
@@ -132,7 +132,7 @@ leaves {a} {p} q b h = subst Lyndon same (join (q .lyn) (i .0) (i .1))
     same : q .u ++ (q .s ▹ b) ≡ a ▹ b
     same = sym (append-assoc (q .u) (q .s) (b ∷ [])) ∙ ap (λ r. r ▹ b) (sym (q .front))
 
--- ---- P3: a lower symbol begins no necklace
+-- ---- a lower symbol begins no necklace
 
 pub falls : {a : List ℕ} {p : ℕ} → Pre a p → (b : ℕ) → b < next p a → (r : List ℕ) → Necklace (a ++ (b ∷ r)) → ⊥
 falls {a} {p} q b h r s = not-both (here h) (≼-strip (q .s) (subst (λ w. w ≼ (q .s ++ (b ∷ (r ++ q .u)))) whole round))

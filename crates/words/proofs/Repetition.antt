@@ -1,4 +1,4 @@
--- A row of a period is a necklace exactly if the period divides its length (P5).
+-- A row of a period is a necklace exactly if the period divides its length.
 use mathlib.Core.List.{List, [], _++_, _∷_}
 use mathlib.Core.Logic.{inl, inr, _⊎_}
 use mathlib.Core.Path.{ap, refl, subst, sym, _∙_, _≡_}

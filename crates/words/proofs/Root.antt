@@ -1,4 +1,4 @@
--- Every necklace is a power of a Lyndon word, whose length is the period (L6).
+-- Every necklace is a power of a Lyndon word, whose length is the period.
 use mathlib.Core.Bool.{Bool, false, true, true≢false}
 use mathlib.Core.List.{List, [], append-assoc, append-nil, nil≢cons, _++_, _∷_}
 use mathlib.Core.Logic.{inl, inr, _⊎_}
@@ -172,6 +172,6 @@ module _ (u : List ℕ) (l : Lyndon u) (k : ℕ) where
       (λ i h q. not-same _ _ (root-above i h q))
       (λ h. →same _ _ root-back)
 
--- L6, whole: w is the power of a Lyndon word whose length is w's period
+-- w is the power of a Lyndon word whose length is w's period
 pub root-of : (w : List ℕ) (r : Root w) → period w ≡ length (r .u)
 root-of w r = ap period (r .is) ∙ root-period (r .u) (r .lyn) (r .k)

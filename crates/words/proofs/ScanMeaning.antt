@@ -1,4 +1,4 @@
--- P4: one pass finds that a row begins no necklace, or its period.
+-- One pass finds that a row begins no necklace, or its period.
 use mathlib.Core.List.{List, [], append-assoc, append-nil, _++_, _∷_}
 use mathlib.Core.Path.{subst, sym, _≡_}
 use Prim.Native.Nat.{Ordering, suc, zero, ℕ, _<_}
