@@ -8,7 +8,7 @@ use lib.ListN.{length, take}
 use lib.Seq.{drop-at, take-all, take-at}
 use Rattle.density.proofs.Binary.{Binary, binary-cons, empty}
 use Rattle.density.proofs.Sums.{by-sums, div-mono, div-super}
-use Rattle.density.specs.Balanced.{balanced, balancedFrom}
+use Rattle.density.specs.InnerBalanced.{balanced, balancedFrom}
 use Rattle.words.proofs.PowerOrder.{Necklace}
 use Rattle.words.proofs.Rotations.{ByIndex, index→necklace}
 use Rattle.words.specs.Rotation.{rotation}

@@ -10,7 +10,7 @@ use Rattle.density.proofs.Binary.{Binary, binary-behind, binary-uncons}
 use Rattle.density.proofs.Largest.{begun-empty}
 use Rattle.density.proofs.Members.{Begun, Member, begins→, →begins}
 use Rattle.density.specs.Necklaces.{begins}
-use Rattle.words.specs.Scan.{_▹_}
+use Rattle.words.specs.InnerScan.{_▹_}
 
 -- a itself is that necklace
 pub begun-whole : {n d : ℕ} {a : List ℕ} → Member n d a → Begun n d a

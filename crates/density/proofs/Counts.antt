@@ -8,7 +8,7 @@ use lib.ListN.{getD, length, take}
 use lib.Seq.{take-suc}
 use Rattle.density.specs.Density.{density}
 use Rattle.words.proofs.AllButLast.{by-last}
-use Rattle.words.specs.Scan.{_▹_}
+use Rattle.words.specs.InnerScan.{_▹_}
 use Rattle.words.specs.Symbols.{ones, sum, zeros}
 
 pub sum-append : (a b : List ℕ) → sum (a ++ b) ≡ sum a + sum b

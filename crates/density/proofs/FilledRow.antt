@@ -10,7 +10,7 @@ use Rattle.density.proofs.BalancedRow.{balanced-append, balanced-length
 use Rattle.density.proofs.FewBlocks.{FewBlock, few-block-row}
 use Rattle.density.proofs.ManyBlocks.{ManyBlock, many-block-row}
 use Rattle.density.proofs.RowSymbols.{balanced-ones, balanced-zeros}
-use Rattle.density.specs.Balanced.{balanced, balancedFrom}
+use Rattle.density.specs.InnerBalanced.{balanced, balancedFrom}
 use Rattle.refusal.specs.Verdicts.{mostStations}
 
 pub record Filled (n d v p : ℕ) (row : List ℕ) : Type 0 where

@@ -8,11 +8,11 @@ use native.Mathlib.Nat.{div-eq-of-lt, mul-le-mul-left, mul-le-mul-right, zero-ad
 use native.Mathlib.Omega.{arith}
 use lib.ListN.{drop, getD, getD-replicate, length}
 use lib.Seq.{getD-take}
-use Rattle.density.proofs.BalancedSteps.{Error, fit-higher, fit-long, fit-lower, fit-same, stays, steps}
-use Rattle.density.specs.Balanced.{balancedFrom}
+use Rattle.density.proofs.ErrorTerm.{Error, fit-higher, fit-long, fit-lower, fit-same, stays, steps}
+use Rattle.density.specs.InnerBalanced.{balancedFrom}
 use Rattle.words.proofs.Below.{le-or}
 use Rattle.words.specs.Order.{le}
-use Rattle.words.specs.Scan.{Leading}
+use Rattle.words.specs.InnerScan.{Leading}
 
 module _ (g : List ℕ) (m e z : ℕ) (q : Leading g z) (h : z < length g) (pos : 0 < m) (few : e ≤ m) where
   zero-at : (k : ℕ) → k < z → getD g k 0 ≡ 0

@@ -7,7 +7,7 @@ use lib.ListN.{drop, length, length-drop, take, take-append-drop}
 use Rattle.density.proofs.BalancedRow.{balanced-binary, balanced-length, balanced-necklace, balanced-total}
 use Rattle.density.proofs.LowRotation.{Lowered, lowered}
 use Rattle.density.proofs.Members.{Begun, Member, largest-is, member-of, member-sum}
-use Rattle.density.specs.Balanced.{balanced}
+use Rattle.density.specs.InnerBalanced.{balanced}
 use Rattle.density.specs.Necklaces.{largestNecklace}
 use Rattle.words.proofs.AtMost.{≼-trans, _≼_}
 use Rattle.words.proofs.Following.{rotation-above}

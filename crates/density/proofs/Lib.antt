@@ -11,11 +11,11 @@ pub mod LowRotation
 pub mod Largest
 pub mod Scaled
 -- a row compared with the balanced row, place by place
-pub mod BalancedSteps
+pub mod ErrorTerm
 pub mod FirstOne
 -- what begins a necklace of (n, d), and what rules a beginning out
 pub mod Begun
-pub mod Sparse
+pub mod RuledOut
 -- neighbours among the necklaces of (n, d)
 pub mod Neighbours
 -- the necklaces of (n, d) below a row: what one question tells of them, how they end, those that are wanted

@@ -11,7 +11,7 @@ use lib.Seq.{take-add, take-append-add, take-append-le, take-take}
 use Rattle.density.proofs.BalancedRow.{balanced-length, prefix-sum}
 use Rattle.density.proofs.Counts.{sum-append}
 use Rattle.density.proofs.Sums.{by-sums}
-use Rattle.density.specs.Balanced.{balanced}
+use Rattle.density.specs.InnerBalanced.{balanced}
 use Rattle.words.proofs.AtMost.{_≼_}
 use Rattle.words.proofs.Below.{le-or}
 use Rattle.words.proofs.Rotations.{rotation-length, rotation-whole, rotation-zero}

@@ -7,7 +7,7 @@ use native.Mathlib.Omega.{arith}
 use lib.ListN.{getD, replicate, take}
 use Rattle.density.proofs.BalancedRow.{balanced-append}
 use Rattle.density.proofs.RowSymbols.{balanced-run, symbol, symbol-in, symbol-one, symbol-step, symbol-zero}
-use Rattle.density.specs.Balanced.{balanced, balancedFrom}
+use Rattle.density.specs.InnerBalanced.{balanced, balancedFrom}
 use Rattle.density.specs.Top.{manyRow}
 
 -- block k starts behind p symbols

@@ -13,7 +13,7 @@ use Rattle.density.proofs.Counts.{sum-append}
 use Rattle.density.proofs.Largest.{at-most-balanced}
 use Rattle.density.proofs.Members.{Member, member-of, member-sum, member→, necklaces-falling, →member}
 use Rattle.density.proofs.Scaled.{scaled}
-use Rattle.density.specs.Balanced.{balanced}
+use Rattle.density.specs.InnerBalanced.{balanced}
 use Rattle.density.specs.Necklaces.{necklaces}
 use Rattle.words.proofs.AtMost.{equal, lower, not-both, squeezed, _≼_}
 use Rattle.words.proofs.Below.{≺-append, ≺-irrefl, ≺-size, ≺-under, _≺_}

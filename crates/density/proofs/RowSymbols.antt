@@ -7,7 +7,7 @@ use native.Mathlib.Nat.{add-zero, div-eq-of-lt-le, div-mul-le-self, lt-div-mul-a
 use native.Mathlib.Omega.{arith}
 use lib.ListN.{getD, replicate, take}
 use lib.Seq.{getD-take}
-use Rattle.density.specs.Balanced.{balanced, balancedFrom}
+use Rattle.density.specs.InnerBalanced.{balanced, balancedFrom}
 use Rattle.words.proofs.Below.{le-or}
 
 -- the symbol behind i others

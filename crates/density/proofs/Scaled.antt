@@ -5,7 +5,7 @@ use Prim.Native.Nat.{suc, zero, ℕ, _*_, _+_, _/_, _<_}
 use native.Mathlib.Nat.{mul-div-mul-left, mul-left-comm, zero-mul}
 use native.Mathlib.Omega.{arith}
 use Rattle.density.proofs.BalancedRow.{balanced-append, balanced-period}
-use Rattle.density.specs.Balanced.{balanced, balancedFrom}
+use Rattle.density.specs.InnerBalanced.{balanced, balancedFrom}
 use Rattle.words.proofs.Power.{power}
 
 -- the floors are the same

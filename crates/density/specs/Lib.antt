@@ -1,7 +1,7 @@
 -- Binary rows.
 pub mod Density
 pub mod Necklaces
-pub mod Balanced
+pub mod InnerBalanced
 pub mod Blocks
 pub mod Top
 pub mod Drawers

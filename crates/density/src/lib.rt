@@ -9,7 +9,7 @@ use refusal::are_stations;
 ghost use mathlib.Core.Path.{_≡_};
 ghost use Prim.Native.Nat.{_-_, _*_, _%_, _<_, _≤_};
 ghost use lib.ListN.{length, take};
-ghost use Rattle.density.specs.Balanced.{balanced};
+ghost use Rattle.density.specs.InnerBalanced.{balanced};
 ghost use Rattle.density.specs.Necklaces.{largestNecklace};
 ghost use Rattle.refusal.specs.Outcomes.{decide, filled};
 ghost use Rattle.density.specs.Top.{topOutcome, topVerdict};

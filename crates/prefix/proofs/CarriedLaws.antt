@@ -5,8 +5,8 @@ use Prim.Native.Nat.{ℕ, _≤_}
 use native.Mathlib.Omega.{arith}
 use lib.ListN.{length, take}
 use lib.Seq.{length-take-le, take-take}
-use Rattle.prefix.specs.Carried.{KnowsPrefixes}
-use Rattle.words.specs.Scan.{scan}
+use Rattle.prefix.specs.InnerCarried.{KnowsPrefixes}
+use Rattle.words.specs.InnerScan.{scan}
 
 pub knows-fewer : (a prefixes : List ℕ) (q : ℕ) → q ≤ length a → KnowsPrefixes a prefixes → KnowsPrefixes (take q a) prefixes
 knows-fewer a prefixes q h k =

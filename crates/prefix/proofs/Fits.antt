@@ -15,8 +15,8 @@ use Rattle.density.proofs.Counts.{sum-append}
 use Rattle.density.proofs.FirstOne.{product-yes}
 use Rattle.density.proofs.Largest.{tail-balanced}
 use Rattle.density.proofs.Members.{Begun, member-of, member-sum}
-use Rattle.density.specs.Balanced.{balanced, balancedFrom}
-use Rattle.prefix.specs.Search.{fits}
+use Rattle.density.specs.InnerBalanced.{balanced, balancedFrom}
+use Rattle.prefix.specs.InnerSearch.{fits}
 use Rattle.words.proofs.AtMost.{_≼_}
 use Rattle.words.proofs.Booleans.{and→, →and}
 use Rattle.words.proofs.Following.{join-necklace}
@@ -24,7 +24,7 @@ use Rattle.words.proofs.Lyndon.{Lyndon}
 use Rattle.words.proofs.OrderTests.{le→, →le}
 use Rattle.words.proofs.PowerOrder.{lyndon→necklace}
 use Rattle.words.specs.Order.{le}
-use Rattle.words.specs.Scan.{Leading}
+use Rattle.words.specs.InnerScan.{Leading}
 use Rattle.words.specs.Symbols.{sum}
 
 -- ---- a Lyndon word g and m more symbols

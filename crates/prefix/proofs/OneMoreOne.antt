@@ -12,15 +12,15 @@ use Rattle.density.proofs.Binary.{Binary, binary-snoc}
 use Rattle.density.proofs.Members.{begins→, →begins}
 use Rattle.density.specs.Necklaces.{begins}
 use Rattle.prefix.proofs.Fits.{fits→, →fits}
-use Rattle.prefix.proofs.Places.{asks-none}
+use Rattle.prefix.proofs.SearchSteps.{asks-none}
 use Rattle.prefix.proofs.Search.{asks-begins}
-use Rattle.prefix.specs.Search.{fits}
+use Rattle.prefix.specs.InnerSearch.{fits}
 use Rattle.words.proofs.Booleans.{same-test}
 use Rattle.words.proofs.Lyndon.{Lyndon}
 use Rattle.words.proofs.Prefixes.{leaves}
 use Rattle.words.proofs.ScanMeaning.{pre-of}
 use Rattle.words.proofs.ScanMore.{more-lower}
-use Rattle.words.specs.Scan.{coded, next, scan, _▹_}
+use Rattle.words.specs.InnerScan.{coded, next, scan, _▹_}
 
 -- ---- one more 1, behind b, which begins a necklace and has period p
 

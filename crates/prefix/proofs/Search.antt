@@ -13,14 +13,14 @@ use Rattle.density.proofs.Binary.{Binary, binary-at, binary-behind, binary-snoc
 use Rattle.density.proofs.Members.{Begun, begins→, member-of, member-sum, →begins}
 use Rattle.density.specs.Necklaces.{begins}
 use Rattle.prefix.proofs.Fits.{fits→, →fits}
-use Rattle.prefix.specs.Search.{asks, asksScanned, continues, fits}
+use Rattle.prefix.specs.InnerSearch.{asks, asksScanned, continues, fits}
 use Rattle.words.proofs.Below.{Means, compare-means, is-eq, is-gt, is-lt}
 use Rattle.words.proofs.Booleans.{and→, or→, same-test, →and}
 use Rattle.words.proofs.PowerOrder.{Necklace}
 use Rattle.words.proofs.Prefixes.{Pre, falls, goes-on, leaves}
 use Rattle.words.proofs.Repetition.{period-divides, whole-power}
 use Rattle.words.proofs.ScanMeaning.{Scanned, has-period, no-necklace, scan-is}
-use Rattle.words.specs.Scan.{Scan, next, _▹_}
+use Rattle.words.specs.InnerScan.{Scan, next, _▹_}
 use Rattle.words.specs.Symbols.{sum}
 
 -- ---- the search

@@ -1,5 +1,5 @@
 -- The prefix question, and what its inner functions compute.
 pub mod Question
-pub mod Search
-pub mod Carried
+pub mod InnerSearch
+pub mod InnerCarried
 pub mod Claims

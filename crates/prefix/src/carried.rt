@@ -7,10 +7,10 @@ ghost use mathlib.Core.Bool.{true};
 ghost use Prim.Native.Nat.{_-_, _≤_, _<_};
 ghost use lib.ListN.{length, getD, take};
 ghost use Rattle.words.specs.Rotation.{isNecklace};
-ghost use Rattle.words.specs.Scan.{Leading, coded, scan};
+ghost use Rattle.words.specs.InnerScan.{Leading, coded, scan};
 ghost use Rattle.density.specs.Necklaces.{begins, isNecklaceOf, ofKind};
 ghost use Rattle.words.specs.Symbols.{Within};
-ghost use Rattle.prefix.specs.Carried.{Knows, KnowsPrefixes};
+ghost use Rattle.prefix.specs.InnerCarried.{Knows, KnowsPrefixes};
 ghost use Rattle.refusal.specs.Verdicts.{mostStations};
 
 // What is known of some symbols: their period (0: they begin no necklace), their ones, and with how many zeros they begin.

@@ -4,9 +4,9 @@ ghost use mathlib.Core.Bool.{true, false};
 ghost use Prim.Native.Nat.{_-_, _≤_, _<_};
 ghost use lib.ListN.{length, take};
 ghost use Rattle.words.specs.Symbols.{sum, Within};
-ghost use Rattle.words.specs.Scan.{Leading};
+ghost use Rattle.words.specs.InnerScan.{Leading};
 ghost use Rattle.density.specs.Necklaces.{begins};
-ghost use Rattle.prefix.specs.Search.{fits, continues};
+ghost use Rattle.prefix.specs.InnerSearch.{fits, continues};
 ghost use Rattle.refusal.specs.Verdicts.{mostStations};
 
 // Whether the Lyndon word g, of density h, begins a necklace of density d with m more symbols. g begins with z zeros and a 1.

@@ -10,7 +10,7 @@ use Rattle.drawer_text.proofs.Filling.{end-length, refusal-length, ring-length}
 use Rattle.drawer_text.specs.Lines.{ringLine}
 use Rattle.listing.specs.Listing.{Line, Listing, entry, none, over, ring}
 use Rattle.printing.specs.Left.{highest64, left, leftAt, lineLeft, linesLeft, listingOf, ringsLeft, stopped}
-use Rattle.printing.specs.NextLine.{answerNext, isDone, nextAt, nextOf, ringNext}
+use Rattle.printing.specs.InnerNextLine.{answerNext, isDone, nextAt, nextOf, ringNext}
 use Rattle.printing.specs.declared.Due.{Due}
 use Rattle.printing.specs.declared.Due.the-variants.{Done, Header, Refused, Rings}
 use Rattle.printing.specs.declared.Printing.{Printing}

@@ -8,7 +8,7 @@ use lib.Seq.{drop-at, drop-drop, length-take-le, take-at}
 use Rattle.drawer_text.specs.Lines.{longestLine}
 use Rattle.printing.proofs.NextLine.{next-left, next-long}
 use Rattle.printing.specs.Left.{left}
-use Rattle.printing.specs.NextLine.{nextOf}
+use Rattle.printing.specs.InnerNextLine.{nextOf}
 use Rattle.printing.specs.declared.Printing.{Printing}
 use Rattle.refusal.specs.Verdicts.{mostStations}
 use Rattle.text.proofs.Written.{length-placed, part-placed}

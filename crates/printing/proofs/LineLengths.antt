@@ -10,7 +10,7 @@ use Rattle.drawer_text.proofs.Filling.{end-length, ring-length}
 use Rattle.drawer_text.specs.Lines.{countOf, endLine, longestLine, ringLine, written}
 use Rattle.words.specs.Rotation.{necklacePeriod}
 use Rattle.printing.specs.Left.{highest64}
-use Rattle.printing.specs.NextLine.{Next, Puts, filledBy}
+use Rattle.printing.specs.InnerNextLine.{Next, Puts, filledBy}
 use Rattle.printing.specs.declared.Filled.{Filled}
 use Rattle.refusal.specs.Verdicts.{mostStations}
 use Rattle.text.proofs.Digits.{decimal-short}

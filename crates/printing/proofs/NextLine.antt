@@ -11,15 +11,15 @@ use borrow.Author.Tests.{le-ltb, leb-false, leb-true, lt-ltb}
 use Rattle.drawer_text.specs.Lines.{endLine, refusalText, ringLine}
 use Rattle.listing.specs.Listing.{Listing, Said, entry, listingStep, over, refused, says, told}
 use Rattle.printing.specs.Left.{highest64, left, leftAt, lineLeft, linesLeft, listingOf, ringsLeft, stopped}
-use Rattle.printing.specs.NextLine.{answerNext, nextAt, nextOf, ringNext, walkNext}
+use Rattle.printing.specs.InnerNextLine.{answerNext, nextAt, nextOf, ringNext, walkNext}
 use Rattle.printing.specs.declared.Due.{Due}
 use Rattle.printing.specs.declared.Due.the-variants.{Done, Header, Refused, Rings}
 use Rattle.printing.specs.declared.Printing.{Printing}
 use Rattle.refusal.proofs.Numbers.{some-number}
 use Rattle.refusal.specs.Verdicts.{mostStations}
-use Rattle.walk.proofs.Good.{Fit, fit-sound}
-use Rattle.walk.proofs.Runs.{said-row, saidAs, told-as}
-use Rattle.walk.proofs.Steps.{Agrees, step-agrees}
+use Rattle.walk.proofs.Invariant.{Fit, fit-sound}
+use Rattle.walk.proofs.Simulation.{said-row, saidAs, told-as}
+use Rattle.walk.proofs.StepAgrees.{Agrees, step-agrees}
 use Rattle.walk.specs.Fit.{fit}
 use Rattle.walk.specs.Moves.{rowOf, rules}
 use Rattle.walk.specs.Step.{saidBy, stepOf}

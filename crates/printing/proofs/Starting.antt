@@ -16,7 +16,7 @@ use Rattle.listing.specs.Listing.{Listing, listing}
 use Rattle.listing.specs.Totals.{AtMost, and-then, ringsOf}
 use Rattle.printing.proofs.Numbers.{numbered}
 use Rattle.printing.specs.Left.{highest64, left, linesLeft, ringsLeft}
-use Rattle.printing.specs.NextLine.{printing}
+use Rattle.printing.specs.InnerNextLine.{printing}
 use Rattle.printing.specs.Text.{askedText, linesText, openedText}
 use Rattle.printing.specs.declared.Due.the-variants.{Header}
 use Rattle.refusal.proofs.Outcomes.{given-so, refused-so}

@@ -3,14 +3,14 @@ use mathlib.Core.Bool.{Bool, false, true}
 use mathlib.Core.Path.{refl, sym, _∙_, _≡_}
 use lib.ListN.{length}
 use Rattle.printing.specs.Left.{highest64}
-use Rattle.printing.specs.NextLine.{GivenRing}
+use Rattle.printing.specs.InnerNextLine.{GivenRing}
 use Rattle.refusal.specs.Verdicts.{mostStations}
 use Rattle.refusal.specs.declared.Refusal.{Refusal}
 use Rattle.refusal.specs.declared.Refusal.the-variants.{Unfit}
-use Rattle.walk.proofs.FitSteps.{is-necklace}
+use Rattle.walk.proofs.FitCases.{is-necklace}
 use Rattle.walk.proofs.GivenRing.{ring-member}
-use Rattle.walk.proofs.Good.{Fit, fit-sound}
-use Rattle.walk.proofs.Steps.{step-agrees}
+use Rattle.walk.proofs.Invariant.{Fit, fit-sound}
+use Rattle.walk.proofs.StepAgrees.{step-agrees}
 use Rattle.walk.specs.Fit.{fit}
 use Rattle.walk.specs.Moves.{rowOf, rules}
 use Rattle.walk.specs.Step.{stepOf}

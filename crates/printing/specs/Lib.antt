@@ -2,4 +2,4 @@
 pub mod Text
 pub mod Left
 pub mod Pieces
-pub mod NextLine
+pub mod InnerNextLine

@@ -11,7 +11,7 @@ ghost use lib.Dec.{ltb};
 ghost use lib.ListN.{length};
 ghost use Rattle.drawer_text.specs.Lines.{endLine, header, longestLine, refusalText};
 ghost use Rattle.printing.specs.Left.{highest64};
-ghost use Rattle.printing.specs.NextLine.{GivenRing, Puts, isDone, lastLine, lineThen, nextOf, printing, ringNext, walkNext};
+ghost use Rattle.printing.specs.InnerNextLine.{GivenRing, Puts, isDone, lastLine, lineThen, nextOf, printing, ringNext, walkNext};
 
 // All that can be allowed: more than the trials of any ring.
 const ALLOWANCE: u64 = 18446744073709551615;

@@ -1,6 +1,6 @@
--- A verdict by what it decides.
+-- A verdict by what it decides, and the numbers that are told.
 use mathlib.Core.Path.{refl, _≡_}
-use Rattle.refusal.specs.Outcomes.{Outcome, decide, given}
+use Rattle.refusal.specs.Outcomes.{GivenNumbers, Outcome, RefusedNumbers, decide, given}
 use Rattle.refusal.specs.Verdicts.{Verdict, accepted}
 use Rattle.refusal.specs.declared.Refusal.{Refusal}
 use Rattle.words.proofs.Booleans.{clash}
@@ -13,3 +13,9 @@ module _ {A : Type 0} where
   pub refused-so : (v : Verdict) (a : A) (r : Refusal) → decide v a ≡ Outcome.refused r → v ≡ Verdict.refused r
   refused-so accepted a r e = clash (cc)
   refused-so (Verdict.refused q) a r e = cc
+
+pub refused-numbers : RefusedNumbers
+refused-numbers A zero a r = (refl, refl, refl)
+
+pub given-numbers : GivenNumbers
+given-numbers A zero a = (refl, refl, refl)

@@ -1,5 +1,6 @@
 -- What an operation comes to: it is refused, or something is given.
 use mathlib.Core.List.{List}
+use mathlib.Core.Path.{_≡_}
 use Prim.Native.Nat.{ℕ}
 use Rattle.refusal.specs.Refusals.{numberOf, placeOf}
 use Rattle.refusal.specs.Verdicts.{Verdict, accepted}
@@ -30,6 +31,14 @@ placeIn (Outcome.refused r) = placeOf r
 abbrev pub valueIn : {A : Type 0} → A → Outcome A → A
 valueIn zero (given a) = a
 valueIn zero (Outcome.refused r) = zero
+
+-- what a refused operation tells: its refusal's number and place, and 0 for all else
+abbrev pub RefusedNumbers : Type 1
+RefusedNumbers = (A : Type 0) (zero a : A) (r : Refusal) → let o = decide (Verdict.refused r) a in (numberIn o ≡ numberOf r) × (placeIn o ≡ placeOf r) × (valueIn zero o ≡ zero)
+
+-- and one that is accepted: no refusal, and what it gives
+abbrev pub GivenNumbers : Type 1
+GivenNumbers = (A : Type 0) (zero a : A) → let o = decide accepted a in (numberIn o ≡ 0) × (placeIn o ≡ 0) × (valueIn zero o ≡ a)
 
 -- a lent buffer at the end: on acceptance the text fills its front; a refusal leaves it as it was
 abbrev pub filled : Verdict → List ℕ → List ℕ → List ℕ

@@ -11,12 +11,12 @@ use Rattle.listing.proofs.Strikes.{Coming, coming}
 use Rattle.listing.specs.Listing.{Line, says}
 use Rattle.listing.specs.Totals.{owed}
 use Rattle.refusal.proofs.Numbers.{some-number}
-use Rattle.walk.proofs.Enough.{moves-enough}
-use Rattle.walk.proofs.Good.{Fit, fit-at, fit-sound}
+use Rattle.walk.proofs.Fuel.{moves-enough}
+use Rattle.walk.proofs.Invariant.{Fit, fit-at, fit-sound}
 use Rattle.walk.proofs.Needed.{needed-owed, spent-due}
-use Rattle.walk.proofs.Runs.{Ran, given, saidAs, spent}
-use Rattle.walk.proofs.Steps.{ended-step, fit-placed, fit-step, good-step, stands-closed}
-use Rattle.walk.specs.Course.{Good, GoodAt, size}
+use Rattle.walk.proofs.Simulation.{Ran, given, saidAs, spent}
+use Rattle.walk.proofs.StepAgrees.{ended-step, fit-placed, fit-step, good-step, stands-closed}
+use Rattle.walk.specs.InnerCourse.{Good, GoodAt, size}
 use Rattle.walk.specs.Fit.{fit}
 use Rattle.walk.specs.Moves.{Rules, moveAt, trial}
 use Rattle.walk.specs.Step.{answerNumbers, enough, stepFit, stepNumbers, stepOf, trialsNeeded}

@@ -11,9 +11,9 @@ use Rattle.density.proofs.Binary.{Binary}
 use Rattle.listing.specs.Listing.{listing, listingAnswers}
 use Rattle.listing.specs.Totals.{listingLeft}
 use Rattle.refusal.specs.Verdicts.{accepted}
-use Rattle.walk.proofs.Good.{Fit, sound-fit}
-use Rattle.walk.proofs.Steps.{step-agrees}
-use Rattle.walk.specs.Course.{Sound}
+use Rattle.walk.proofs.Invariant.{Fit, sound-fit}
+use Rattle.walk.proofs.StepAgrees.{step-agrees}
+use Rattle.walk.specs.InnerCourse.{Sound}
 use Rattle.walk.specs.Fit.{fitAt}
 use Rattle.walk.specs.Moves.{Rules, rules}
 use Rattle.walk.specs.Opening.{fresh, openVerdict}

@@ -11,9 +11,9 @@ use Rattle.density.proofs.Binary.{binary-within, within-binary}
 use Rattle.density.proofs.KindTests.{is-one, one-of}
 use Rattle.density.proofs.Members.{member-test, member→, test-member, →member}
 use Rattle.density.specs.Necklaces.{begins, isNecklaceOf, ofKind}
-use Rattle.walk.proofs.Good.{Fit, fit-at, fit-sound, sound-fit}
+use Rattle.walk.proofs.Invariant.{Fit, fit-at, fit-sound, sound-fit}
 use Rattle.walk.specs.Claims.{FitMeans}
-use Rattle.walk.specs.Course.{Sound}
+use Rattle.walk.specs.InnerCourse.{Sound}
 use Rattle.walk.specs.Fit.{FitAt, FitRecord, fit, fitAt}
 use Rattle.walk.specs.Moves.{rowOf, rules}
 use Rattle.walk.specs.declared.Standing.{Standing}

@@ -6,7 +6,7 @@ use lib.Dec.{ltb}
 use lib.ListN.{getD}
 use Rattle.density.specs.Necklaces.{isNecklaceOf}
 use Rattle.refusal.specs.declared.Refusal.{Refusal}
-use Rattle.walk.proofs.Good.{Fit, fit-at}
+use Rattle.walk.proofs.Invariant.{Fit, fit-at}
 use Rattle.walk.specs.Fit.{fit, fitAt}
 use Rattle.walk.specs.Moves.{Move, Rules, answer, downMove, foundMove, free, goneBelow, limitMove, moveAt, rowOf, trial, upMove}
 use Rattle.walk.specs.Step.{after, enough, run, stepFit, stepOf}

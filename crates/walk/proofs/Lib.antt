@@ -1,17 +1,17 @@
 -- what each move does to what a walk stands for, and how many may come
-pub mod Events
-pub mod Below
+pub mod MoveLines
+pub mod BelowLines
 -- good and fit records, each move kept, a run as the listing has it
-pub mod Good
-pub mod Runs
-pub mod Keeping
-pub mod Enough
-pub mod Steps
+pub mod Invariant
+pub mod Simulation
+pub mod MovesKeep
+pub mod Fuel
+pub mod StepAgrees
 pub mod Needed
 pub mod AnyStep
 -- what the functions compute, step by step
-pub mod FitSteps
-pub mod Onward
+pub mod FitCases
+pub mod MoveByMove
 pub mod Resuming
 pub mod MoveCases
 pub mod StepLoop

@@ -11,7 +11,7 @@ use Rattle.density.proofs.Begun.{begins-member}
 use Rattle.density.proofs.Binary.{Binary, binary-append, binary-within, test-binary}
 use Rattle.density.proofs.Members.{Member}
 use Rattle.density.specs.Necklaces.{begins, isNecklaceOf, ofKind}
-use Rattle.walk.specs.Course.{Good}
+use Rattle.walk.specs.InnerCourse.{Good}
 use Rattle.walk.specs.Moves.{answer, downTried, ended, foundMove, free, goneBelow, limitMove, moveAt, moved, rowOf, rules, trial, upTried}
 use Rattle.walk.specs.declared.Answer.the-variants.{None}
 use Rattle.walk.specs.declared.Standing.the-variants.{Down, Given, Limit, Up}

@@ -7,12 +7,12 @@ use Rattle.listing.proofs.Strikes.{Closed, last, line}
 use Rattle.listing.specs.Listing.{Listing, raise}
 use Rattle.listing.specs.Totals.{owed}
 use Rattle.refusal.specs.declared.Refusal.the-variants.{Spent}
-use Rattle.walk.proofs.Enough.{enough-some, moves-enough}
-use Rattle.walk.proofs.Good.{Fit}
-use Rattle.walk.proofs.Keeping.{keeping}
-use Rattle.walk.proofs.Runs.{Keeps, keeps-answer, keeps-free, keeps-trial, saidAs}
-use Rattle.walk.proofs.Steps.{stands-closed}
-use Rattle.walk.specs.Course.{Good, size}
+use Rattle.walk.proofs.Fuel.{enough-some, moves-enough}
+use Rattle.walk.proofs.Invariant.{Fit}
+use Rattle.walk.proofs.MovesKeep.{keeping}
+use Rattle.walk.proofs.Simulation.{Keeps, keeps-answer, keeps-free, keeps-trial, saidAs}
+use Rattle.walk.proofs.StepAgrees.{stands-closed}
+use Rattle.walk.specs.InnerCourse.{Good, size}
 use Rattle.walk.specs.Moves.{Move, Rules, moveAt, trial}
 use Rattle.walk.specs.Step.{after, enough, neededBy, neededIn, run, trialsNeeded}
 use Rattle.walk.specs.ToCome.{stands}

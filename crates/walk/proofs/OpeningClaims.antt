@@ -21,8 +21,8 @@ use Rattle.refusal.proofs.Conditions.{Tells, accepted-exactly, at-most-tells, c
 use Rattle.refusal.specs.Conditions.{NoStations, NoneHolds}
 use Rattle.refusal.specs.Verdicts.{accepted}
 use Rattle.walk.proofs.Demand.{Admitted, accepted-opening, answers-agree, fresh-fit, fresh-stands, handed-stands, stays-fit}
-use Rattle.walk.proofs.Good.{Fit}
-use Rattle.walk.proofs.Steps.{step-agrees}
+use Rattle.walk.proofs.Invariant.{Fit}
+use Rattle.walk.proofs.StepAgrees.{step-agrees}
 use Rattle.walk.specs.Claims.{Demand3, EndedNext, FirstRing, Kind1Trials, NamedAll, NamedFalling, NeverSpent, NeverUnfit, NextRing, NoneNext, OpenAccepts, OpenRefusals, Opening, RingNext, SpentNext, TakenAlike, TakenListed, Trials, TrialsNext, answers, bookOf, given, next, opened, wantedOf}
 use Rattle.walk.specs.Moves.{rules}
 use Rattle.walk.specs.Opening.{NoCondition, NoKind, fresh, openConditions, openVerdict, openWalk}

@@ -6,11 +6,11 @@ use Prim.Native.Nat.{_<_, _≤_}
 use native.Mathlib.Omega.{arith}
 use Rattle.listing.specs.Totals.{owed}
 use Rattle.walk.proofs.AnyStep.{StepCase, ended-case, given-case, spent-case, step-case, unfit-case}
-use Rattle.walk.proofs.Good.{Fit, fit-at, fit-sound}
+use Rattle.walk.proofs.Invariant.{Fit, fit-at, fit-sound}
 use Rattle.walk.proofs.Needed.{needed-ended, needed-owed}
-use Rattle.walk.proofs.Steps.{ended-stands, fit-placed, step-agrees}
+use Rattle.walk.proofs.StepAgrees.{ended-stands, fit-placed, step-agrees}
 use Rattle.walk.specs.Claims.{AnsweredExactly, EndedExactly, NeededOwed, RefusedSteps, SpentExactly, StepAsBook, TrialDue, UnfitExactly}
-use Rattle.walk.specs.Course.{GoodAt}
+use Rattle.walk.specs.InnerCourse.{GoodAt}
 use Rattle.walk.specs.Fit.{fit}
 use Rattle.walk.specs.Moves.{moveAt, rules, trial}
 use Rattle.walk.specs.Step.{stepNumbers, trialsNeeded}

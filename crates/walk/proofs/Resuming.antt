@@ -5,11 +5,11 @@ use Prim.Native.Nat.{suc, zero, ℕ, _-_, _<_, _≤_}
 use native.Mathlib.Nat.{le-refl}
 use native.Mathlib.Omega.{arith}
 use Rattle.refusal.specs.declared.Refusal.the-variants.{Ended as HasEnded, Spent}
-use Rattle.walk.proofs.Enough.{enough-some}
-use Rattle.walk.proofs.Keeping.{keeping}
-use Rattle.walk.proofs.Onward.{Kept, kept-free, kept-trial, onward, onward-move}
-use Rattle.walk.proofs.Runs.{run-ended}
-use Rattle.walk.specs.Course.{Good, Resumes, landed, rest, resumed, size}
+use Rattle.walk.proofs.Fuel.{enough-some}
+use Rattle.walk.proofs.MovesKeep.{keeping}
+use Rattle.walk.proofs.MoveByMove.{Kept, kept-free, kept-trial, onward, onward-move}
+use Rattle.walk.proofs.Simulation.{run-ended}
+use Rattle.walk.specs.InnerCourse.{Good, Resumes, landed, rest, resumed, size}
 use Rattle.walk.specs.Moves.{answer, free, moveAt, moved, rules, trial}
 use Rattle.walk.specs.Step.{after, enough, stepped}
 use Rattle.walk.specs.declared.Answer.{Answer}

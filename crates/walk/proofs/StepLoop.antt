@@ -8,13 +8,13 @@ use native.Mathlib.Nat.{le-refl}
 use native.Mathlib.Omega.{arith}
 use lib.ListN.{length, take}
 use lib.Seq.{length-take-le}
-use Rattle.prefix.specs.Carried.{Knows, KnowsPrefixes}
+use Rattle.prefix.specs.InnerCarried.{Knows, KnowsPrefixes}
 use Rattle.prefix.specs.declared.carried.Known.{Known}
 use Rattle.refusal.specs.declared.Refusal.the-variants.{Unfit}
-use Rattle.walk.proofs.Good.{Fit, fit-at, fit-sound}
+use Rattle.walk.proofs.Invariant.{Fit, fit-at, fit-sound}
 use Rattle.walk.proofs.MoveCases.{good-long, good-symbols}
-use Rattle.walk.proofs.Steps.{fit-placed, fit-step}
-use Rattle.walk.specs.Course.{Good, GoodAt, Ready, Resumes, before, landed, rest, resumed, size}
+use Rattle.walk.proofs.StepAgrees.{fit-placed, fit-step}
+use Rattle.walk.specs.InnerCourse.{Good, GoodAt, Ready, Resumes, before, landed, rest, resumed, size}
 use Rattle.walk.specs.Fit.{fit}
 use Rattle.walk.specs.Moves.{moved, rowOf, rules}
 use Rattle.walk.specs.Step.{stepOf, stepped}

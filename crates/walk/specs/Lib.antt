@@ -4,5 +4,5 @@ pub mod Fit
 pub mod ToCome
 pub mod Step
 pub mod Opening
-pub mod Course
+pub mod InnerCourse
 pub mod Claims

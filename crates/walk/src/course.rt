@@ -10,9 +10,9 @@ use refusal::Refusal;
 ghost use mathlib.Core.Path.{_≡_};
 ghost use Prim.Native.Nat.{_+_, _-_};
 ghost use lib.ListN.{take};
-ghost use Rattle.prefix.specs.Carried.{Knows, KnowsPrefixes};
+ghost use Rattle.prefix.specs.InnerCarried.{Knows, KnowsPrefixes};
 ghost use Rattle.walk.specs.Moves.{rowOf, rules, goneBelow};
-ghost use Rattle.walk.specs.Course.{Good, Ready, Resumes, before};
+ghost use Rattle.walk.specs.InnerCourse.{Good, Ready, Resumes, before};
 
 impl Walk {
     // From where the walk stands to an answer, or to a ring of another kind.

@@ -10,12 +10,12 @@ ghost use mathlib.Core.Path.{_≡_};
 ghost use mathlib.Core.Bool.{_&&_};
 ghost use Prim.Native.Nat.{_≤_, _<_};
 ghost use lib.ListN.{take};
-ghost use Rattle.prefix.specs.Carried.{Knows, KnowsPrefixes};
+ghost use Rattle.prefix.specs.InnerCarried.{Knows, KnowsPrefixes};
 ghost use Rattle.walk.specs.Moves.{rowOf, rules};
 ghost use Rattle.walk.specs.Fit.{fitSizes, fitRow, fitAt};
 ghost use Rattle.walk.specs.Step.{stepDue, stepNumbers, stepOf, stepped};
 ghost use Rattle.walk.specs.Opening.{openOutcome, openVerdict, openWalk, refusedWalk};
-ghost use Rattle.walk.specs.Course.{Fitting, before};
+ghost use Rattle.walk.specs.InnerCourse.{Fitting, before};
 ghost use Rattle.refusal.specs.Outcomes.{Outcome, decide};
 ghost use Rattle.refusal.specs.Verdicts.{mostStations};
 

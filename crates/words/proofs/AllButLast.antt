@@ -6,7 +6,7 @@ use native.Mathlib.Omega.{arith}
 use lib.ListN.{getD, length, take}
 use lib.Seq.{getD-take, length-take-le, take-length, take-suc}
 use Rattle.words.proofs.ScanMore.{more-barred, more-higher, more-lower, more-same, scan-one}
-use Rattle.words.specs.Scan.{coded, next, scan, _▹_}
+use Rattle.words.specs.InnerScan.{coded, next, scan, _▹_}
 
 module _ (a : List ℕ) (h : 0 < length a) where
   abbrev front : List ℕ

@@ -3,7 +3,7 @@ use mathlib.Core.List.{List, [], _++_, _∷_}
 use Prim.Native.Nat.{suc, zero, ℕ, _<_}
 use native.Mathlib.Omega.{arith}
 use lib.ListN.{replicate, set, take}
-use Rattle.words.specs.Scan.{_▹_}
+use Rattle.words.specs.InnerScan.{_▹_}
 use Rattle.words.specs.Symbols.{Within}
 
 pub within-nil : {k : ℕ} → Within k []

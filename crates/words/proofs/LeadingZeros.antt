@@ -8,7 +8,7 @@ use lib.ListN.{List·getD-append, length, length-append, take}
 use lib.Seq.{getD-at, getD-take, length-take-le, take-append-le, take-take}
 use Rattle.words.proofs.Below.{le-or}
 use Rattle.words.proofs.Zeros.{zeros-more}
-use Rattle.words.specs.Scan.{Leading, _▹_}
+use Rattle.words.specs.InnerScan.{Leading, _▹_}
 use Rattle.words.specs.Symbols.{zeros}
 
 -- ---- one symbol more

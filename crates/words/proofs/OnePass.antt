@@ -20,7 +20,7 @@ use Rattle.words.proofs.Root.{root, root-of}
 use Rattle.words.proofs.Rotations.{isNecklace→, →isNecklace}
 use Rattle.words.proofs.ScanMeaning.{Scanned, has-period, no-necklace, scan-is}
 use Rattle.words.specs.Rotation.{isLyndon, isNecklace, period}
-use Rattle.words.specs.Scan.{Scan, coded, periodic, scan}
+use Rattle.words.specs.InnerScan.{Scan, coded, periodic, scan}
 
 -- ---- the number that is due
 

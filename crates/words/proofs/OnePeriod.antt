@@ -15,7 +15,7 @@ use Rattle.words.proofs.Power.{power, power-snoc}
 use Rattle.words.proofs.PowerOrder.{Necklace, power-necklace}
 use Rattle.words.proofs.Prefixes.{Pre}
 use Rattle.words.proofs.ScanMeaning.{Scanned, has-period, no-necklace, scan-is}
-use Rattle.words.specs.Scan.{Scan, barred, periodic, scan}
+use Rattle.words.specs.InnerScan.{Scan, barred, periodic, scan}
 use Rattle.words.proofs.Booleans.{clash}
 
 periodic≢barred : {p : ℕ} → periodic p ≡ barred → ⊥

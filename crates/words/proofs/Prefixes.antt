@@ -13,7 +13,7 @@ use Rattle.words.proofs.FirstDifference.{raise-symbol}
 use Rattle.words.proofs.Induction.{strong}
 use Rattle.words.proofs.Lyndon.{BySuffixes, Lyndon, join, lyndon-of, lyndon-size, suffix}
 use Rattle.words.proofs.PowerOrder.{Necklace}
-use Rattle.words.specs.Scan.{next, _▹_}
+use Rattle.words.specs.InnerScan.{next, _▹_}
 
 -- The first p symbols of a are a Lyndon word u, and a begins u u u ..: behind its first u, it begins as it does at the front.
 pub record Pre (a : List ℕ) (p : ℕ) : Type 0 where

@@ -7,7 +7,7 @@ use lib.ListN.{length, length-append}
 use Rattle.words.proofs.Below.{Means, compare-means, is-eq, is-gt, is-lt}
 use Rattle.words.proofs.PowerOrder.{Necklace}
 use Rattle.words.proofs.Prefixes.{Pre, falls, goes-on, leaves, pre-lyndon, pre-one}
-use Rattle.words.specs.Scan.{Scan, barred, coded, next, onward, periodic, scan, scanFrom, _▹_}
+use Rattle.words.specs.InnerScan.{Scan, barred, coded, next, onward, periodic, scan, scanFrom, _▹_}
 use Rattle.words.proofs.Booleans.{clash}
 
 -- what each answer means

@@ -8,7 +8,7 @@ use lib.ListN.{getD, length, take}
 use lib.Seq.{length-take-le, take-suc}
 use Rattle.words.proofs.Below.{compare-self}
 use Rattle.words.proofs.ScanSteps.{compare-gt, compare-lt}
-use Rattle.words.specs.Scan.{Scan, barred, coded, next, onward, periodic, scan, scanFrom, _▹_}
+use Rattle.words.specs.InnerScan.{Scan, barred, coded, next, onward, periodic, scan, scanFrom, _▹_}
 
 -- behind w, scanned, comes b
 abbrev pub scanMore : Scan → List ℕ → ℕ → Scan

@@ -8,7 +8,7 @@ use native.Mathlib.Omega.{arith}
 use lib.ListN.{drop, drop-of-length-le, getD, getD-replicate, length, take}
 use lib.Seq.{drop-cons, getD-take, length-take-le, take-suc}
 use Rattle.words.proofs.Below.{Means, compare-means, compare-self, is-eq, is-gt, is-lt}
-use Rattle.words.specs.Scan.{Leading, barred, coded, next, onward, scan, scanFrom}
+use Rattle.words.specs.InnerScan.{Leading, barred, coded, next, onward, scan, scanFrom}
 
 -- ---- three-way comparison of numbers
 

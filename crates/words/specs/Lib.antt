@@ -5,5 +5,5 @@ pub mod Falling
 pub mod Rotation
 pub mod Symbols
 pub mod Buffers
-pub mod Scan
+pub mod InnerScan
 pub mod Claims

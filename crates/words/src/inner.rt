@@ -4,7 +4,7 @@ ghost use Prim.Native.Nat.{_-_, _≤_, _<_};
 ghost use lib.ListN.{length};
 ghost use Rattle.words.specs.Buffers.{fronted};
 ghost use Rattle.words.specs.Rotation.{necklacePeriod};
-ghost use Rattle.words.specs.Scan.{Leading, coded, scan};
+ghost use Rattle.words.specs.InnerScan.{Leading, coded, scan};
 ghost use Rattle.words.specs.Symbols.{zeros};
 
 // With how many zeros a row begins.

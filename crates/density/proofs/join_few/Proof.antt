@@ -9,7 +9,7 @@ use lib.ListN.{getD, set, take}
 use borrow.Author.Needs.{needs}
 use Rattle.density.proofs.FewBlocks.{FewAt, few-ends, few-start, few-turn, least-gap}
 use Rattle.density.proofs.FilledRow.{Filled, few-filled, filled-none, filled-whole}
-use Rattle.density.specs.Balanced.{balanced}
+use Rattle.density.specs.InnerBalanced.{balanced}
 use Rattle.refusal.specs.Verdicts.{mostStations}
 use Rattle.density.proofs.join_few.Statement.{statement}
 use Rattle.density.proofs.join_few.Tie as tie

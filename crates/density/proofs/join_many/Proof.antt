@@ -8,7 +8,7 @@ use lib.ListN.{getD, set, take}
 use borrow.Author.Needs.{needs}
 use Rattle.density.proofs.FilledRow.{Filled, filled-none, filled-whole, many-filled}
 use Rattle.density.proofs.ManyBlocks.{ManyAt, least-run, many-ends, many-start, many-turn}
-use Rattle.density.specs.Balanced.{balanced}
+use Rattle.density.specs.InnerBalanced.{balanced}
 use Rattle.refusal.specs.Verdicts.{mostStations}
 use Rattle.density.proofs.join_many.Statement.{statement}
 use Rattle.density.proofs.join_many.Tie as tie

@@ -9,9 +9,9 @@ use lib.Seq.{take-append-seam}
 use borrow.Author.Needs.{needs}
 use borrow.Author.Tests.{not-false, not-true}
 use Rattle.density.specs.Necklaces.{begins}
-use Rattle.prefix.proofs.Refused.{ask-accepted, ask-holes, ask-prefix, ask-stations, ask-symbol}
+use Rattle.prefix.proofs.AskCases.{ask-accepted, ask-holes, ask-prefix, ask-stations, ask-symbol}
 use Rattle.prefix.proofs.ask.Statement.{statement}
-use Rattle.prefix.specs.Carried.{Knows}
+use Rattle.prefix.specs.InnerCarried.{Knows}
 use Rattle.refusal.proofs.Stations.{stations→}
 use Rattle.refusal.specs.Outcomes.{given}
 use Rattle.refusal.specs.Verdicts.{areStations, mostStations}

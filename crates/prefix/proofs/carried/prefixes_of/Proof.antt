@@ -9,11 +9,11 @@ use native.Mathlib.Omega.{arith}
 use lib.ListN.{getD, length, length-set, set, take}
 use lib.Seq.{getD-set-other, getD-set-same, length-take-le, take-suc}
 use borrow.Author.Needs.{needs}
-use Rattle.prefix.specs.Carried.{KnowsPrefixes}
+use Rattle.prefix.specs.InnerCarried.{KnowsPrefixes}
 use Rattle.words.proofs.Below.{le-or}
 use Rattle.words.proofs.ScanMore.{barred-on, more-higher, more-lower, more-same, scan-one}
 use Rattle.words.proofs.ScanSteps.{next-at}
-use Rattle.words.specs.Scan.{coded, next, scan}
+use Rattle.words.specs.InnerScan.{coded, next, scan}
 use Rattle.words.specs.Symbols.{zeros}
 use Rattle.refusal.specs.Verdicts.{mostStations}
 use Rattle.prefix.proofs.carried.prefixes_of.Statement.{statement}

@@ -7,7 +7,7 @@ use borrow.Author.Needs.{needs}
 use Rattle.prefix.proofs.carried.zeros_after.Statement.{statement}
 use Rattle.words.proofs.AllButLast.{by-last, front-length}
 use Rattle.words.proofs.LeadingZeros.{lead-on, lead-one, lead-past}
-use Rattle.words.specs.Scan.{Leading}
+use Rattle.words.specs.InnerScan.{Leading}
 use Rattle.prefix.proofs.carried.zeros_after.Tie as tie
 
 returns : tie.Need-returns

@@ -8,13 +8,13 @@ use native.Mathlib.Numerals.{add-one}
 use native.Mathlib.Omega.{arith}
 use lib.ListN.{drop, length}
 use borrow.Author.Needs.{needs}
-use Rattle.density.proofs.BalancedSteps.{Error, fit-end, fit-higher, fit-long, fit-lower, fit-same, stays, steps}
+use Rattle.density.proofs.ErrorTerm.{Error, fit-end, fit-higher, fit-long, fit-lower, fit-same, stays, steps}
 use Rattle.density.proofs.FirstOne.{product-else, product-not}
-use Rattle.density.specs.Balanced.{balancedFrom}
+use Rattle.density.specs.InnerBalanced.{balancedFrom}
 use Rattle.prefix.proofs.Fits.{fits-few, fits-many, fits-some, product-fits}
 use Rattle.refusal.specs.Verdicts.{mostStations}
 use Rattle.prefix.proofs.inner.goes_on.Statement.{statement}
-use Rattle.prefix.specs.Search.{fits}
+use Rattle.prefix.specs.InnerSearch.{fits}
 use Rattle.words.specs.Order.{le}
 use Rattle.prefix.proofs.inner.goes_on.Tie as tie
 

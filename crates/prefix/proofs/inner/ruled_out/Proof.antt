@@ -7,7 +7,7 @@ use native.Mathlib.Omega.{arith}
 use lib.ListN.{length}
 use borrow.Author.Needs.{needs}
 use borrow.Author.Tests.{ltb-true}
-use Rattle.density.proofs.Sparse.{too-few, too-many, too-sparse}
+use Rattle.density.proofs.RuledOut.{too-few, too-many, too-sparse}
 use Rattle.refusal.specs.Verdicts.{mostStations}
 use Rattle.prefix.proofs.inner.ruled_out.Statement.{statement}
 use Rattle.words.specs.Symbols.{sum}

@@ -9,13 +9,13 @@ use lib.ListN.{getD, length, length-append, length-set, set, take}
 use lib.Seq.{length-take-le}
 use borrow.Author.Needs.{needs}
 use Rattle.density.proofs.Counts.{sum-snoc}
-use Rattle.prefix.proofs.Places.{broken-end, leaves-up, put, put-over, stays-high, stays-low, whole-end}
+use Rattle.prefix.proofs.SearchSteps.{broken-end, leaves-up, put, put-over, stays-high, stays-low, whole-end}
 use Rattle.refusal.specs.Verdicts.{mostStations}
 use Rattle.prefix.proofs.inner.search_from.Statement.{statement}
-use Rattle.prefix.specs.Search.{continues}
+use Rattle.prefix.specs.InnerSearch.{continues}
 use Rattle.words.proofs.Alphabet.{within-set, within-snoc, within-take}
 use Rattle.words.proofs.LeadingZeros.{lead-on, lead-one, lead-past, lead-up}
-use Rattle.words.specs.Scan.{Leading, _▹_}
+use Rattle.words.specs.InnerScan.{Leading, _▹_}
 use Rattle.words.specs.Symbols.{Within, sum}
 use Rattle.prefix.proofs.inner.search_from.Tie as tie
 

@@ -9,7 +9,7 @@ use borrow.Author.Needs.{needs}
 use Rattle.printing.proofs.Growing.{Grown, grown-more}
 use Rattle.text.proofs.Written.{behind}
 use Rattle.printing.proofs.Ending.{done-left, left-done, line-some}
-use Rattle.printing.specs.NextLine.{isDone, nextOf}
+use Rattle.printing.specs.InnerNextLine.{isDone, nextOf}
 use Rattle.printing.proofs.Printing.fill.Statement.{statement}
 use Rattle.printing.proofs.Printing.fill.Tie as tie
 

@@ -6,7 +6,7 @@ use borrow.Author.Needs.{needs}
 use Rattle.drawer_text.specs.Lines.{endLine}
 use Rattle.printing.proofs.LineLengths.{end-short, puts-line}
 use Rattle.printing.specs.Left.{highest64}
-use Rattle.printing.specs.NextLine.{lastLine, printing}
+use Rattle.printing.specs.InnerNextLine.{lastLine, printing}
 use Rattle.printing.specs.declared.Due.the-variants.{Done}
 use Rattle.printing.proofs.lines.put_end.Statement.{statement}
 use Rattle.printing.proofs.lines.put_end.Tie as tie

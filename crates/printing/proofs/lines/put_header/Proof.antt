@@ -5,7 +5,7 @@ use native.Mathlib.Omega.{arith}
 use borrow.Author.Needs.{needs}
 use Rattle.drawer_text.specs.Lines.{header}
 use Rattle.printing.proofs.LineLengths.{puts-line}
-use Rattle.printing.specs.NextLine.{lineThen, printing}
+use Rattle.printing.specs.InnerNextLine.{lineThen, printing}
 use Rattle.printing.specs.declared.Due.the-variants.{Rings}
 use Rattle.printing.proofs.lines.put_header.Statement.{statement}
 use Rattle.printing.proofs.lines.put_header.Tie as tie

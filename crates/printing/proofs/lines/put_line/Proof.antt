@@ -3,7 +3,7 @@ use mathlib.Core.Bool.{true}
 use mathlib.Core.Path.{ap, refl, _≡_}
 use native.Mathlib.Omega.{arith}
 use borrow.Author.Needs.{needs}
-use Rattle.printing.specs.NextLine.{nextAt, nextOf}
+use Rattle.printing.specs.InnerNextLine.{nextAt, nextOf}
 use Rattle.printing.specs.declared.Due.{Due}
 use Rattle.printing.specs.declared.Due.the-variants.{Done, Header, Refused, Rings}
 use Rattle.printing.specs.declared.Filled.{Filled}

@@ -4,7 +4,7 @@ use mathlib.Core.Path.{refl}
 use borrow.Author.Needs.{needs}
 use Rattle.drawer_text.specs.Lines.{refusalText}
 use Rattle.printing.proofs.LineLengths.{puts-line}
-use Rattle.printing.specs.NextLine.{lastLine, printing}
+use Rattle.printing.specs.InnerNextLine.{lastLine, printing}
 use Rattle.printing.specs.declared.Due.the-variants.{Done}
 use Rattle.printing.proofs.lines.put_refusal.Statement.{statement}
 use Rattle.printing.proofs.lines.put_refusal.Tie as tie

@@ -9,7 +9,7 @@ use borrow.Author.Needs.{needs}
 use borrow.Author.Tests.{le-ltb, lt-ltb}
 use Rattle.printing.proofs.LineLengths.{necklace-period-is, puts-line, ring-short}
 use Rattle.printing.specs.Left.{highest64}
-use Rattle.printing.specs.NextLine.{printing, ringNext}
+use Rattle.printing.specs.InnerNextLine.{printing, ringNext}
 use Rattle.printing.specs.declared.Due.the-variants.{Rings}
 use Rattle.refusal.specs.Verdicts.{mostStations}
 use Rattle.walk.specs.Moves.{rowOf}

@@ -5,7 +5,7 @@ use lib.ListN.{length}
 use borrow.Author.Needs.{needs}
 use Rattle.printing.proofs.StepRing.{ring-given}
 use Rattle.printing.specs.Left.{highest64}
-use Rattle.printing.specs.NextLine.{answerNext, stepNext, walkNext}
+use Rattle.printing.specs.InnerNextLine.{answerNext, stepNext, walkNext}
 use Rattle.refusal.specs.Verdicts.{mostStations}
 use Rattle.walk.specs.Moves.{rules}
 use Rattle.walk.specs.Step.{stepOf}

@@ -11,7 +11,7 @@ use lib.Seq.{set-set}
 use borrow.Author.Needs.{needs}
 use borrow.Author.Tests.{not-false, not-true}
 use Rattle.density.specs.Necklaces.{begins}
-use Rattle.prefix.specs.Carried.{Knows}
+use Rattle.prefix.specs.InnerCarried.{Knows}
 use Rattle.prefix.specs.declared.carried.Known.{Known}
 use Rattle.walk.proofs.MoveCases.{bit, good-long, good-symbols, good-up, up-due, up-tried}
 use Rattle.walk.proofs.Resuming.{Comes, comes-at, then-part, then-spent, then-trial}

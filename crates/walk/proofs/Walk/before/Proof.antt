@@ -1,7 +1,7 @@
 -- `walk::Walk::before` meets its contract.
 use mathlib.Core.Path.{ap, sym, _∙_}
 use borrow.Author.Needs.{needs}
-use Rattle.walk.specs.Course.{before}
+use Rattle.walk.specs.InnerCourse.{before}
 use Rattle.walk.proofs.Walk.before.Statement.{statement}
 use Rattle.walk.proofs.Walk.before.Tie as tie
 

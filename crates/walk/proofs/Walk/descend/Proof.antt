@@ -11,7 +11,7 @@ use lib.Seq.{length-take-le, take-take}
 use borrow.Author.Needs.{needs}
 use Rattle.density.specs.Necklaces.{begins}
 use Rattle.prefix.proofs.CarriedLaws.{knows-fewer}
-use Rattle.prefix.specs.Carried.{Knows, KnowsPrefixes}
+use Rattle.prefix.specs.InnerCarried.{Knows, KnowsPrefixes}
 use Rattle.prefix.specs.declared.carried.Known.{Known}
 use Rattle.walk.proofs.MoveCases.{down-due, down-free, down-no, down-yes, good-down, good-long, good-symbols}
 use Rattle.walk.proofs.Resuming.{Comes, comes-at, then-free, then-part, then-spent, then-trial}

@@ -6,10 +6,10 @@ use lib.ListN.{length, take}
 use lib.Seq.{length-take-le}
 use borrow.Author.Needs.{needs}
 use borrow.Author.Tests.{not-false, not-true}
-use Rattle.prefix.specs.Carried.{Knows}
-use Rattle.walk.proofs.FitSteps.{at-down, at-down-to, at-ended, at-given, at-given-not, at-up, at-up-high, at-up-low, fit-as, is-necklace}
+use Rattle.prefix.specs.InnerCarried.{Knows}
+use Rattle.walk.proofs.FitCases.{at-down, at-down-to, at-ended, at-given, at-given-not, at-up, at-up-high, at-up-low, fit-as, is-necklace}
 use Rattle.walk.proofs.Walk.fit_at.Statement.{statement}
-use Rattle.walk.specs.Course.{before}
+use Rattle.walk.specs.InnerCourse.{before}
 use Rattle.walk.specs.Fit.{fitAt}
 use Rattle.walk.specs.Moves.{rowOf}
 use Rattle.walk.specs.declared.Standing.{Standing}

@@ -2,7 +2,7 @@
 use mathlib.Core.Path.{sym, _∙_}
 use borrow.Author.Needs.{needs}
 use borrow.Author.Tests.{not-false, not-true}
-use Rattle.walk.proofs.FitSteps.{sizes→}
+use Rattle.walk.proofs.FitCases.{sizes→}
 use Rattle.walk.proofs.Walk.fit_record.Statement.{statement}
 use Rattle.walk.proofs.Walk.fit_record.Tie as tie
 

@@ -4,7 +4,7 @@ use native.Mathlib.Omega.{arith}
 use lib.ListN.{length}
 use lib.Seq.{length-take-le}
 use borrow.Author.Needs.{needs}
-use Rattle.walk.proofs.FitSteps.{from-n, row-high, row-low}
+use Rattle.walk.proofs.FitCases.{from-n, row-high, row-low}
 use Rattle.refusal.specs.Verdicts.{mostStations}
 use Rattle.walk.proofs.Walk.fit_row.Statement.{statement}
 use Rattle.words.specs.Symbols.{allUpTo}

@@ -2,7 +2,7 @@
 use mathlib.Core.Path.{sym, _∙_}
 use borrow.Author.Needs.{needs}
 use borrow.Author.Tests.{not-false, not-true}
-use Rattle.walk.proofs.FitSteps.{sizes-dense, sizes-kind, sizes-stations}
+use Rattle.walk.proofs.FitCases.{sizes-dense, sizes-kind, sizes-stations}
 use Rattle.walk.proofs.Walk.fit_sizes.Statement.{statement}
 use Rattle.walk.proofs.Walk.fit_sizes.Tie as tie
 

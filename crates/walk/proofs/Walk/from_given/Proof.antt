@@ -6,7 +6,7 @@ use lib.ListN.{length, set, take}
 use lib.Seq.{length-take-le, take-set-le, take-take}
 use borrow.Author.Needs.{needs}
 use Rattle.prefix.proofs.CarriedLaws.{knows-fewer}
-use Rattle.prefix.specs.Carried.{Knows, KnowsPrefixes}
+use Rattle.prefix.specs.InnerCarried.{Knows, KnowsPrefixes}
 use Rattle.walk.proofs.MoveCases.{from-given, gone-last, gone-on, good-long, good-symbols}
 use Rattle.walk.proofs.Resuming.{Comes, comes-here, then-free, then-part}
 use Rattle.walk.proofs.Walk.from_given.Statement.{statement}

@@ -6,7 +6,7 @@ use native.Mathlib.Omega.{arith}
 use lib.ListN.{length, take}
 use lib.Seq.{length-take-le, take-take}
 use Rattle.prefix.proofs.CarriedLaws.{knows-fewer}
-use Rattle.prefix.specs.Carried.{Knows, KnowsPrefixes}
+use Rattle.prefix.specs.InnerCarried.{Knows, KnowsPrefixes}
 use Rattle.walk.proofs.MoveCases.{from-limit, good-long, good-symbols}
 use Rattle.walk.proofs.Resuming.{Comes, comes-here, then-free, then-part}
 use Rattle.walk.proofs.Walk.from_limit.Statement.{statement}

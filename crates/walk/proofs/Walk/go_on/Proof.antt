@@ -7,10 +7,10 @@ use lib.ListN.{length, take}
 use lib.Seq.{length-take-le, take-take}
 use borrow.Author.Needs.{needs}
 use Rattle.prefix.proofs.CarriedLaws.{knows-fewer}
-use Rattle.prefix.specs.Carried.{Knows, KnowsPrefixes}
+use Rattle.prefix.specs.InnerCarried.{Knows, KnowsPrefixes}
 use Rattle.walk.proofs.MoveCases.{good-down, good-long}
 use Rattle.walk.proofs.Resuming.{ended-resumes}
-use Rattle.walk.specs.Course.{Good, GoodAt, before}
+use Rattle.walk.specs.InnerCourse.{Good, GoodAt, before}
 use Rattle.walk.specs.Moves.{rules}
 use Rattle.walk.specs.declared.Standing.{Standing}
 use Rattle.walk.specs.declared.Standing.the-variants.{Down, Ended, Given, Limit, Up}

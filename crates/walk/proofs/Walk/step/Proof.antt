@@ -6,9 +6,9 @@ use lib.ListN.{length, take}
 use lib.Seq.{length-take-le}
 use borrow.Author.Needs.{needs}
 use borrow.Author.Tests.{not-false, not-true}
-use Rattle.walk.proofs.FitSteps.{fit-no-record, fit-so-far, record-fitting}
+use Rattle.walk.proofs.FitCases.{fit-no-record, fit-so-far, record-fitting}
 use Rattle.walk.proofs.StepLoop.{Going, going-first, turn-again, turn-fits, turn-inside, turn-length, turn-less, turn-long, turn-says, turn-symbols, unfit-step}
-use Rattle.walk.specs.Course.{Fitting, Resumes, size}
+use Rattle.walk.specs.InnerCourse.{Fitting, Resumes, size}
 use Rattle.walk.specs.Fit.{fit}
 use Rattle.walk.specs.Moves.{moved, rowOf, rules}
 use Rattle.walk.specs.Step.{stepDue, stepNumbers, stepOf}

@@ -6,7 +6,7 @@ use native.Mathlib.Omega.{arith}
 use lib.ListN.{drop, length, take}
 use borrow.Author.Needs.{needs}
 use Rattle.words.proofs.ScanSteps.{over-first, pass-higher, pass-lower, pass-same, scan-end, scan-start}
-use Rattle.words.specs.Scan.{scan, scanFrom}
+use Rattle.words.specs.InnerScan.{scan, scanFrom}
 use Rattle.words.proofs.inner.prefix_period.Statement.{statement}
 use Rattle.words.proofs.inner.prefix_period.Tie as tie
 

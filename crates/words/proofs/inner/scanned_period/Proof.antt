@@ -2,7 +2,7 @@
 use mathlib.Core.Path.{ap, sym, _∙_}
 use borrow.Author.Needs.{needs}
 use Rattle.words.proofs.OnePass.{pass-barred, pass-whole, pass-within}
-use Rattle.words.specs.Scan.{coded}
+use Rattle.words.specs.InnerScan.{coded}
 use Rattle.words.proofs.inner.scanned_period.Statement.{statement}
 use Rattle.words.proofs.inner.scanned_period.Tie as tie
 

@@ -10,11 +10,11 @@ use borrow.Author.Needs.{needs}
 use Rattle.density.proofs.Begun.{begins-empty}
 use Rattle.density.proofs.Binary.{binary-sum, within-binary}
 use Rattle.density.specs.Necklaces.{begins}
-use Rattle.prefix.proofs.Places.{asks-none, asks-period}
+use Rattle.prefix.proofs.SearchSteps.{asks-none, asks-period}
 use Rattle.prefix.proofs.Search.{asks-begins}
 use Rattle.refusal.specs.Verdicts.{mostStations}
 use Rattle.prefix.proofs.carried.Known.begins.Statement.{statement}
-use Rattle.prefix.specs.Search.{asks, continues}
+use Rattle.prefix.specs.InnerSearch.{asks, continues}
 use Rattle.words.proofs.Alphabet.{within-take}
 use Rattle.words.specs.Symbols.{Within, sum}
 use Rattle.prefix.proofs.carried.Known.begins.Tie as tie

@@ -13,11 +13,11 @@ use Rattle.density.proofs.Counts.{front-sum}
 use Rattle.density.specs.Necklaces.{begins}
 use Rattle.prefix.proofs.OneMoreOne.{some-period, up-asked, up-forced}
 use Rattle.prefix.proofs.carried.Known.begins_with_one.Statement.{statement}
-use Rattle.prefix.specs.Search.{fits}
+use Rattle.prefix.specs.InnerSearch.{fits}
 use Rattle.words.proofs.AllButLast.{by-last, front-length}
 use Rattle.words.proofs.Alphabet.{within-take}
 use Rattle.words.proofs.LeadingZeros.{lead-up}
-use Rattle.words.specs.Scan.{Leading, coded, next, scan, _▹_}
+use Rattle.words.specs.InnerScan.{Leading, coded, next, scan, _▹_}
 use Rattle.words.specs.Symbols.{Within, sum}
 use Rattle.prefix.proofs.carried.Known.begins_with_one.Tie as tie
 

@@ -9,11 +9,11 @@ use lib.Seq.{take-all}
 use borrow.Author.Needs.{needs}
 use Rattle.density.proofs.Counts.{front-sum}
 use Rattle.prefix.proofs.carried.Known.shorter.Statement.{statement}
-use Rattle.prefix.specs.Carried.{Knows, KnowsPrefixes}
+use Rattle.prefix.specs.InnerCarried.{Knows, KnowsPrefixes}
 use Rattle.prefix.specs.declared.carried.Known.{Known}
 use Rattle.words.proofs.AllButLast.{front-length}
 use Rattle.words.proofs.LeadingZeros.{lead-all, lead-some}
-use Rattle.words.specs.Scan.{Leading}
+use Rattle.words.specs.InnerScan.{Leading}
 use Rattle.prefix.proofs.carried.Known.shorter.Tie as tie
 
 module _ (a prefixes : List ℕ) (k : Known) (h : 0 < length a) (q : KnowsPrefixes a prefixes) (e : Knows a k) where

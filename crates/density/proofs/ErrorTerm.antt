@@ -7,7 +7,7 @@ use native.Mathlib.Nat.{add-comm, add-mul-div-right, div-eq-of-lt, zero-add}
 use native.Mathlib.Omega.{arith}
 use lib.ListN.{drop, drop-of-length-le, getD, length}
 use lib.Seq.{drop-cons}
-use Rattle.density.specs.Balanced.{balancedFrom}
+use Rattle.density.specs.InnerBalanced.{balancedFrom}
 use Rattle.words.proofs.AtMost.{≼-append}
 use Rattle.words.proofs.Below.{compare-self}
 use Rattle.words.proofs.OrderTests.{→le}

@@ -10,7 +10,7 @@ use lib.Seq.{drop-set-lt, getD-take, take-set-lt}
 use borrow.Author.Tests.{le-leb, leb-true}
 use Rattle.density.proofs.Binary.{Binary, binary-at, binary-set, binary-test, test-binary, within-binary}
 use Rattle.density.specs.Necklaces.{begins, isNecklaceOf}
-use Rattle.walk.specs.Course.{Sound}
+use Rattle.walk.specs.InnerCourse.{Sound}
 use Rattle.walk.specs.Fit.{fit, fitAt, fitRow, fitSizes}
 use Rattle.walk.specs.Moves.{Rules, ended, moved, rowOf}
 use Rattle.walk.specs.declared.Standing.{Standing}

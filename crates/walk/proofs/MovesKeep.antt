@@ -16,11 +16,11 @@ use Rattle.density.proofs.Members.{Member, member-test, test-member, →begins}
 use Rattle.density.specs.Necklaces.{begins, isNecklaceOf}
 use Rattle.listing.proofs.Strikes.{strike-kept, strike-out, strike-raise}
 use Rattle.listing.specs.Listing.{raise, strike}
-use Rattle.walk.proofs.Below.{below-lines, below-rows, last-lines, last-rows, none-lines}
-use Rattle.walk.proofs.Events.{down-free, down-no-lines, down-no-rows, down-yes-lines, down-yes-rows, fixed, found-lines, found-rows, limit-no-lines, limit-no-rows, limit-yes-lines, up-lines, up-no-rows, up-yes-rows}
-use Rattle.walk.proofs.Good.{Fit, down-fit, ended-fit, given-fit, sound-at, sound-fit, sound-set, symbol, up-fit}
-use Rattle.walk.proofs.Runs.{Keeps, keeps-answer, keeps-free, keeps-trial, said-row}
-use Rattle.walk.specs.Course.{Good, GoodAt, Sound, movesAt, size, sizeAt}
+use Rattle.walk.proofs.BelowLines.{below-lines, below-rows, last-lines, last-rows, none-lines}
+use Rattle.walk.proofs.MoveLines.{down-free, down-no-lines, down-no-rows, down-yes-lines, down-yes-rows, fixed, found-lines, found-rows, limit-no-lines, limit-no-rows, limit-yes-lines, up-lines, up-no-rows, up-yes-rows}
+use Rattle.walk.proofs.Invariant.{Fit, down-fit, ended-fit, given-fit, sound-at, sound-fit, sound-set, symbol, up-fit}
+use Rattle.walk.proofs.Simulation.{Keeps, keeps-answer, keeps-free, keeps-trial, said-row}
+use Rattle.walk.specs.InnerCourse.{Good, GoodAt, Sound, movesAt, size, sizeAt}
 use Rattle.walk.specs.Fit.{fitAt}
 use Rattle.walk.specs.Moves.{Move, Rules, answer, downMove, downTried, ended, foundMove, free, goneBelow, limitMove, moveAt, moved, rowOf, trial, upMove, upTried}
 use Rattle.walk.specs.ToCome.{linesAt, rowsAt, stands}

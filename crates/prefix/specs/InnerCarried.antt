@@ -3,7 +3,7 @@ use mathlib.Core.List.{List}
 use mathlib.Core.Path.{_≡_}
 use Prim.Native.Nat.{ℕ, _≤_, _<_}
 use lib.ListN.{length, getD, take}
-use Rattle.words.specs.Scan.{Leading, coded, scan}
+use Rattle.words.specs.InnerScan.{Leading, coded, scan}
 use Rattle.words.specs.Symbols.{sum}
 use Rattle.prefix.specs.declared.carried.Known.{Known}
 

@@ -7,7 +7,7 @@ use native.Mathlib.Omega.{arith}
 use lib.ListN.{length}
 use Rattle.density.proofs.DrawerSize.{drawer-few}
 use Rattle.density.specs.Necklaces.{necklacesBelow, necklacesUpTo}
-use Rattle.walk.specs.Course.{Good, GoodAt, movesAt, size, sizeAt}
+use Rattle.walk.specs.InnerCourse.{Good, GoodAt, movesAt, size, sizeAt}
 use Rattle.walk.specs.Moves.{Rules}
 use Rattle.walk.specs.Step.{enough}
 use Rattle.walk.specs.ToCome.{rowsAt}

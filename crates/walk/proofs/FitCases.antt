@@ -13,7 +13,7 @@ use Rattle.density.proofs.Members.{isNecklaceOf→}
 use Rattle.density.specs.Necklaces.{begins, isKind, isNecklaceOf, ofKind}
 use Rattle.refusal.proofs.Stations.{Sized, stations→}
 use Rattle.refusal.specs.Verdicts.{areStations, mostStations}
-use Rattle.walk.specs.Course.{Fitting}
+use Rattle.walk.specs.InnerCourse.{Fitting}
 use Rattle.walk.specs.Fit.{fit, fitAt, fitRow, fitSizes}
 use Rattle.walk.specs.Moves.{rowOf, rules}
 use Rattle.walk.specs.declared.Standing.{Standing}

@@ -6,8 +6,8 @@ use lib.ListN.{length}
 use lib.Dec.{eqb, leb}
 use Rattle.words.specs.Order.{le}
 use Rattle.words.specs.Symbols.{sum}
-use Rattle.words.specs.Scan.{_▹_, next, Scan, barred, periodic, scan}
-use Rattle.density.specs.Balanced.{balanced}
+use Rattle.words.specs.InnerScan.{_▹_, next, Scan, barred, periodic, scan}
+use Rattle.density.specs.InnerBalanced.{balanced}
 
 -- the Lyndon word g begins a necklace of density d with m more symbols: the largest necklace of those m symbols is not below g
 unfoldable pub fits : ℕ → ℕ → List ℕ → Bool

@@ -9,9 +9,9 @@ use lib.Dec.{eqb}
 use lib.ListN.{getD, length, set, take}
 use lib.Seq.{length-take-le, set-set, take-suc-set}
 use borrow.Author.Tests.{eq-eqb, ne-eqb}
-use Rattle.prefix.specs.Search.{asks, continues, fits}
+use Rattle.prefix.specs.InnerSearch.{asks, continues, fits}
 use Rattle.words.proofs.ScanSteps.{next-at}
-use Rattle.words.specs.Scan.{barred, coded, scan, _▹_}
+use Rattle.words.specs.InnerScan.{barred, coded, scan, _▹_}
 use Rattle.words.specs.Symbols.{sum}
 
 -- ---- a symbol is stored at place i

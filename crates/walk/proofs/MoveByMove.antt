@@ -2,11 +2,11 @@
 use mathlib.Core.Path.{refl, _≡_}
 use Prim.Native.Nat.{suc, zero, ℕ, _<_, _≤_}
 use native.Mathlib.Omega.{arith}
-use Rattle.walk.proofs.Enough.{moves-enough}
-use Rattle.walk.proofs.Good.{Fit}
-use Rattle.walk.proofs.Keeping.{keeping}
-use Rattle.walk.proofs.Runs.{Keeps, keeps-answer, keeps-free, keeps-trial, run-same}
-use Rattle.walk.specs.Course.{Good, size}
+use Rattle.walk.proofs.Fuel.{moves-enough}
+use Rattle.walk.proofs.Invariant.{Fit}
+use Rattle.walk.proofs.MovesKeep.{keeping}
+use Rattle.walk.proofs.Simulation.{Keeps, keeps-answer, keeps-free, keeps-trial, run-same}
+use Rattle.walk.specs.InnerCourse.{Good, size}
 use Rattle.walk.specs.Moves.{Move, Rules, free, moveAt, trial}
 use Rattle.walk.specs.Step.{after, enough, run}
 use Rattle.walk.specs.ToCome.{stands}

@@ -15,11 +15,11 @@ use Rattle.density.specs.Necklaces.{begins, isNecklaceOf}
 use Rattle.listing.proofs.Strikes.{Closed, all-closed, coming, line, lines-closed, strike-closed}
 use Rattle.listing.specs.Listing.{Line, Listing, Said, entry, listingStep, over, strike, told}
 use Rattle.refusal.specs.declared.Refusal.the-variants.{Ended as HasEnded}
-use Rattle.walk.proofs.Enough.{enough-some, moves-enough}
-use Rattle.walk.proofs.Good.{Fit, fit-at, fit-sound}
-use Rattle.walk.proofs.Keeping.{keeping}
-use Rattle.walk.proofs.Runs.{Ran, given, run-as-listed, run-ended, saidAs, spent, told-as}
-use Rattle.walk.specs.Course.{Good, GoodAt, Sound, size}
+use Rattle.walk.proofs.Fuel.{enough-some, moves-enough}
+use Rattle.walk.proofs.Invariant.{Fit, fit-at, fit-sound}
+use Rattle.walk.proofs.MovesKeep.{keeping}
+use Rattle.walk.proofs.Simulation.{Ran, given, run-as-listed, run-ended, saidAs, spent, told-as}
+use Rattle.walk.specs.InnerCourse.{Good, GoodAt, Sound, size}
 use Rattle.walk.specs.Fit.{fitAt}
 use Rattle.walk.specs.Moves.{Rules, rowOf}
 use Rattle.walk.specs.Step.{enough, run, stepNumbers, stepOf, stepped, toldBy}
