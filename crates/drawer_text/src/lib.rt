@@ -14,6 +14,16 @@ pub const MOST_BYTES: usize = 256;
 // The longest that a line or a refusal's text can be: a row, three numbers of up to 20 digits, and four bytes between and behind them.
 pub const LONGEST_LINE: usize = refusal::MOST_STATIONS + 64;
 
+// The bytes of what is the same in every text: the names of the input and of the output, and what stands beside the numbers in the
+// last line and in a refusal's text.
+const NAMES: usize = 26;
+
+const HEADER: usize = 25;
+
+const END: usize = 9;
+
+const REFUSAL: usize = 16;
+
 // A line of values: stations, holes, kind, and where the limit starts and how long it is.
 pub enum Values {
     Line(usize, usize, usize, usize, usize),
@@ -37,7 +47,7 @@ pub fn read_drawer(text: &[u8], limit: &mut [u8]) -> Request
     if !text::read::stands_at(text, 0, b"stations holes kind limit\n") {
         return Request::Refused(Refusal::Text(1));
     }
-    let Values::Line(stations, holes, kind, start, size) = parse::values_at(text, 26) else {
+    let Values::Line(stations, holes, kind, start, size) = parse::values_at(text, NAMES) else {
         return Request::Refused(Refusal::Text(2));
     };
     let end = start + size;
@@ -55,7 +65,7 @@ pub fn read_drawer(text: &[u8], limit: &mut [u8]) -> Request
 pub fn write_header(out: &mut [u8]) -> usize
     ensures { λ r. ⌜ (r ≡ countOf header (length (now (out .entry)))) × (now (out .exit) ≡ written header (now (out .entry))) ⌝ }
 {
-    if out.len() < 25 {
+    if out.len() < HEADER {
         return 0;
     }
     text::write::put(out, 0, b"number row period trials\n")
@@ -84,7 +94,7 @@ pub fn write_ring(number: u64, row: &[u8], period: u64, trials: u64, out: &mut [
 pub fn write_end(trials: u64, out: &mut [u8]) -> usize
     ensures { λ r. ⌜ (r ≡ countOf (endLine trials) (length (now (out .entry)))) × (now (out .exit) ≡ written (endLine trials) (now (out .entry))) ⌝ }
 {
-    if out.len() < text::write::decimal_length(trials) + 9 {
+    if out.len() < text::write::decimal_length(trials) + END {
         return 0;
     }
     let a = text::write::put(out, 0, b"end - - ");
@@ -98,7 +108,9 @@ pub fn write_refusal(r: Refusal, out: &mut [u8]) -> usize
 {
     let number = text::write::wide(refusal::number(r));
     let place = refusal::place(r) as u64;
-    if out.len() < text::write::decimal_length(number) + text::write::decimal_length(place) + 16 {
+    if out.len()
+        < text::write::decimal_length(number) + text::write::decimal_length(place) + REFUSAL
+    {
         return 0;
     }
     let a = text::write::put(out, 0, b"refused place\n");

@@ -13,16 +13,16 @@ pub fn belongs(sort: Bytes, byte: u8) -> bool
 {
     match sort {
         Bytes::Digits => {
-            if byte < 48 {
+            if byte < b'0' {
                 return false;
             }
-            byte <= 57
+            byte <= b'9'
         }
         Bytes::Unspaced => {
-            if byte == 32 {
+            if byte == b' ' {
                 return false;
             }
-            byte != 10
+            byte != b'\n'
         }
     }
 }
@@ -64,10 +64,10 @@ pub fn stands_at(text: &[u8], at: usize, word: &[u8]) -> bool
 fn digit(byte: u8) -> usize
     ensures { λ r. ⌜ (r ≡ byte - 48) × (r < 256) ⌝ }
 {
-    if byte < 48 {
+    if byte < b'0' {
         return 0;
     }
-    (byte - 48) as usize
+    (byte - b'0') as usize
 }
 
 // The number at a place.
@@ -85,7 +85,7 @@ pub fn numeral_at(text: &[u8], at: usize) -> Numeral
     if count == 1 {
         return Numeral::Number(first, at + 1);
     }
-    if text[at] == 48 {
+    if text[at] == b'0' {
         return Numeral::NoNumber;
     }
     let second = first * 10 + digit(text[at + 1]);

@@ -12,10 +12,10 @@ ghost use Rattle.text.specs.Buffers.{placed};
 pub fn symbol(byte: u8) -> u8
     ensures { λ r. ⌜ r ≡ symbolOf byte ⌝ }
 {
-    if byte == 48 {
+    if byte == b'0' {
         return 0;
     }
-    if byte == 49 {
+    if byte == b'1' {
         return 1;
     }
     2
@@ -38,9 +38,9 @@ pub fn character(symbol: u8) -> u8
     ensures { λ r. ⌜ r ≡ characterOf symbol ⌝ }
 {
     if symbol == 0 {
-        return 48;
+        return b'0';
     }
-    49
+    b'1'
 }
 
 // How many decimal digits a number has.
@@ -75,11 +75,11 @@ pub fn put_field(out: &mut [u8], at: usize, n: u64, end: u8) -> usize
     let mut rest = n;
     while 10 <= rest {
         from -= 1;
-        text[from] = 48 + (rest % 10) as u8;
+        text[from] = b'0' + (rest % 10) as u8;
         rest = rest / 10;
     }
     from -= 1;
-    text[from] = 48 + rest as u8;
+    text[from] = b'0' + rest as u8;
     put(out, at, &text[from..])
 }
 
@@ -94,7 +94,7 @@ pub fn put_row(out: &mut [u8], at: usize, row: &[u8]) -> usize
         i += 1;
     }
     let end = at + row.len();
-    out[end] = 32;
+    out[end] = b' ';
     end + 1
 }
 
