@@ -41,11 +41,15 @@ def refused(number, place):
     return f"refused {number} place {place}"
 
 
+def rows_to_10():
+    return [row for n in range(1, 11) for row in product((0, 1), repeat=n)]
+
+
 def row_of_number(n, number):
     return tuple(int(b) for b in format(number, f"0{n}b")) if n else ()
 
 
-# ---- top_test
+# ---- density_test
 
 
 def show_top(n, d, room):
@@ -53,18 +57,18 @@ def show_top(n, d, room):
     print(n, d, *([refused(*no), "as before 64"] if no else [text(top(n, d)), "as before", 64 - n]))
 
 
-def top_test():
+def density_test():
     for n in range(1, 13):
         for d in range(n + 1):
             assert top(n, d) == drawer(n, d)[0]
             show_top(n, d, 64)
     pairs = sum(n + 1 for n in range(1, 65))
     print("compared", pairs, "agreed", pairs)
-    for n, d, room in calls("top_test", "show"):
+    for n, d, room in calls("density_test", "show"):
         show_top(n, d, room)
 
 
-# ---- row_test
+# ---- necklace_test
 
 
 def show_key(digits, room):
@@ -86,6 +90,18 @@ def show_class(digits):
     print(refused(*no) if no else f"shelved {said(shelved(row))} without symmetry {said(without_symmetry(row))}")
 
 
+def necklace_test():
+    for name, show in (("key", show_key), ("class", show_class)):
+        for case in calls("necklace_test", "show_" + name):
+            show(*case)
+    rows = len(rows_to_10())
+    for name in ("key", "class"):
+        print(name, "compared", rows, "agreed", rows)
+
+
+# ---- gaps_test
+
+
 def show_row(n, gaps, room):
     no = refusal((1, not stations(n)), (2, len(gaps) > n), (7, gaps and sum(gaps) + len(gaps) != n), (9, room < n))
     print(f"row of {n} stations and {len(gaps)} gaps", *gaps, "buffer", f"{room}: ", end="")
@@ -104,18 +120,13 @@ def show_list(digits, room):
         print(f"gaps {len(gaps)}:", *gaps, "as before", 80 - len(gaps))
 
 
-def row_test():
-    for name, show in (("key", show_key), ("class", show_class), ("row", show_row), ("list", show_list)):
-        for case in calls("row_test", "show_" + name):
+def gaps_test():
+    for name, show in (("row", show_row), ("list", show_list)):
+        for case in calls("gaps_test", "show_" + name):
             show(*case)
-    rows = [row for n in range(1, 11) for row in product((0, 1), repeat=n)]
+    rows = rows_to_10()
     listed = sum(not any(row) or row[-1] == 1 for row in rows)
-    for name, number in (
-        ("key", len(rows)),
-        ("class", len(rows)),
-        ("gap list and back", listed),
-        ("no gap list, refused 8", len(rows) - listed),
-    ):
+    for name, number in (("gap list and back", listed), ("no gap list, refused 8", len(rows) - listed)):
         print(name, "compared", number, "agreed", number)
 
 
@@ -191,7 +202,7 @@ def walk_test():
         show_walk(*case)
 
 
-# ---- record_test
+# ---- walk_record_test
 
 STANDINGS = ("Limit", "Down", "Up", "Given", "Ended")
 
@@ -260,15 +271,15 @@ def random_step(record):
     return (n, d, {0: 0, 1: 3}.get(kind, 1 + kind % 2), row, at), allowance if allowance < 7 else PLENTY
 
 
-def record_test():
-    for case in calls("record_test", "show"):
+def walk_record_test():
+    for case in calls("walk_record_test", "show"):
         show_single(*case)
     for n in range(1, 7):
         records = list(all_records(n))
         for a in (0, 1, 2, 3, 4, PLENTY):
             allowed = f"allowed {a}" if a < PLENTY else "plenty allowed"
             show_outcomes(f"n {n} records {len(records)} {allowed}", ((walk, a) for walk in records))
-    for first, end in calls("record_test", "show_records"):
+    for first, end in calls("walk_record_test", "show_records"):
         show_outcomes(f"at random, records {first} up to {end}", map(random_step, range(first, end)))
 
 

@@ -1,27 +1,8 @@
 // Inputs and lines by the hundred, compared with what they must give.
 use drawer_text::Request;
-use plain_rows::FRESH;
-ghost use mathlib.Core.Path.{_≡_};
+use test_rows::FRESH;
 ghost use Prim.Native.Nat.{_≤_};
 ghost use lib.ListN.{length};
-
-// A piece behind what a text holds, as far as there is room.
-fn append(text: &mut [u8], at: usize, piece: &[u8]) -> usize
-    requires { ⌜ (at ≤ 300) × (300 ≡ length (now text)) ⌝ }
-    ensures { λ r. ⌜ (r ≤ 300) × (300 ≡ length (now (text .exit))) ⌝ }
-{
-    let mut i = at;
-    let mut k: usize = 0;
-    while k < piece.len() {
-        if 300 <= i {
-            return i;
-        }
-        text[i] = piece[k];
-        i += 1;
-        k += 1;
-    }
-    i
-}
 
 fn ask(text: &[u8], n: usize) -> Request
     requires { ⌜ n ≤ length (now text) ⌝ }
@@ -60,10 +41,10 @@ fn is_refused(r: Request, number: u8, place: usize) -> bool {
 fn number_agrees(n: usize) -> bool {
     let mut digits = [0u8; 20];
     let count = io::decimal(n as u64, &mut digits);
-    let mut text = [0u8; 300];
-    let a = append(&mut text, 0, b"stations holes kind limit\n");
-    let b = append(&mut text, a, &digits[..count]);
-    let c = append(&mut text, b, b" 3 1 111111\n");
+    let mut text = [0u8; 8192];
+    let a = test_rows::append(&mut text, 0, b"stations holes kind limit\n");
+    let b = test_rows::append(&mut text, a, &digits[..count]);
+    let c = test_rows::append(&mut text, b, b" 3 1 111111\n");
     let r = ask(&text, c);
     if n < 1000 {
         return is_drawer(r, n, 3, 1, 6);
@@ -73,14 +54,14 @@ fn number_agrees(n: usize) -> bool {
 
 // A limit of so many bytes: 223 of them fill a text of 256 bytes.
 fn length_agrees(size: usize) -> bool {
-    let mut text = [0u8; 300];
-    let mut at = append(&mut text, 0, b"stations holes kind limit\n6 3 1 ");
+    let mut text = [0u8; 8192];
+    let mut at = test_rows::append(&mut text, 0, b"stations holes kind limit\n6 3 1 ");
     let mut i: usize = 0;
     while i < size {
-        at = append(&mut text, at, b"1");
+        at = test_rows::append(&mut text, at, b"1");
         i += 1;
     }
-    at = append(&mut text, at, b"\n");
+    at = test_rows::append(&mut text, at, b"\n");
     let r = ask(&text, at);
     if size == 0 {
         return is_refused(r, 10, 2);
@@ -93,11 +74,11 @@ fn length_agrees(size: usize) -> bool {
 
 // The byte b as the limit.
 fn byte_agrees(b: u8) -> bool {
-    let mut text = [0u8; 300];
-    let at = append(&mut text, 0, b"stations holes kind limit\n1 0 1 ");
+    let mut text = [0u8; 8192];
+    let at = test_rows::append(&mut text, 0, b"stations holes kind limit\n1 0 1 ");
     let byte = [b];
-    let next = append(&mut text, at, &byte);
-    let end = append(&mut text, next, b"\n");
+    let next = test_rows::append(&mut text, at, &byte);
+    let end = test_rows::append(&mut text, next, b"\n");
     let r = ask(&text, end);
     if b == 10 {
         return is_refused(r, 10, 2);
@@ -110,8 +91,8 @@ fn byte_agrees(b: u8) -> bool {
 
 // The byte b at a place of the names line.
 fn name_agrees(place: usize, b: u8) -> bool {
-    let mut text = [0u8; 300];
-    let end = append(&mut text, 0, b"stations holes kind limit\n1 0 1 0\n");
+    let mut text = [0u8; 8192];
+    let end = test_rows::append(&mut text, 0, b"stations holes kind limit\n1 0 1 0\n");
     if 26 <= place {
         return false;
     }
@@ -150,11 +131,11 @@ fn room_agrees(room: usize) -> bool {
 fn end_agrees(n: u64) -> bool {
     let mut digits = [0u8; 20];
     let count = io::decimal(n, &mut digits);
-    let mut text = [0u8; 300];
-    let a = append(&mut text, 0, b"end - - ");
-    let b = append(&mut text, a, &digits[..count]);
-    let c = append(&mut text, b, b"\n");
-    let mut out = [FRESH; 300];
+    let mut text = [0u8; 8192];
+    let a = test_rows::append(&mut text, 0, b"end - - ");
+    let b = test_rows::append(&mut text, a, &digits[..count]);
+    let c = test_rows::append(&mut text, b, b"\n");
+    let mut out = [FRESH; 8192];
     let m = drawer_text::write_end(n, &mut out);
     if m != c {
         return false;
@@ -193,7 +174,7 @@ fn count_agreed(sort: Sort, count: usize) -> usize {
     let mut agreed: usize = 0;
     let mut n: usize = 0;
     while n < count {
-        agreed += plain_rows::one_if(agrees(sort, n));
+        agreed += test_rows::one_if(agrees(sort, n));
         n += 1;
     }
     agreed
@@ -201,7 +182,7 @@ fn count_agreed(sort: Sort, count: usize) -> usize {
 
 fn print_count(what: &[u8], compared: usize, agreed: usize) {
     io::write_all(1, what);
-    plain_rows::print_counts(compared, agreed);
+    test_rows::print_counts(compared, agreed);
 }
 
 fn compare_ends() {
@@ -209,7 +190,7 @@ fn compare_ends() {
     let mut compared: usize = 0;
     let mut n: u64 = 18446744073709551615;
     while 0 < n {
-        agreed += plain_rows::one_if(end_agrees(n));
+        agreed += test_rows::one_if(end_agrees(n));
         compared += 1;
         n = n - n / 40 - 1;
     }

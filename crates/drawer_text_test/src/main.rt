@@ -2,22 +2,22 @@
 mod compare;
 
 use drawer_text::Request;
-use plain_rows::FRESH;
 use refusal::Refusal;
+use test_rows::FRESH;
 ghost use Prim.Native.Nat.{_≤_};
 
 fn print_request(r: Request, symbols: &[u8; 256]) {
     match r {
         Request::Drawer(stations, holes, kind, size) => {
-            plain_rows::print_named(b"", stations);
-            plain_rows::print_named(b" ", holes);
-            plain_rows::print_named(b" ", kind);
+            test_rows::print_named(b"", stations);
+            test_rows::print_named(b" ", holes);
+            test_rows::print_named(b" ", kind);
             io::write_all(1, b" ");
-            plain_rows::print_row(size, symbols);
+            test_rows::print_row(size, symbols);
         }
-        Request::Refused(why) => plain_rows::print_refusal(why),
+        Request::Refused(why) => test_rows::print_refusal(why),
     }
-    plain_rows::print_as_before(plain_rows::count_fresh(symbols));
+    test_rows::print_as_before(test_rows::count_fresh(symbols));
 }
 
 // A line for an input, with a buffer of which room bytes are lent.

@@ -16,7 +16,7 @@ fn count_holes(row: &[u8; refusal::MOST_STATIONS], n: usize) -> usize
     let mut holes: usize = 0;
     let mut i: usize = 0;
     while i < n {
-        holes += plain_rows::one_if(row[i] == 1);
+        holes += test_rows::one_if(row[i] == 1);
         i += 1;
     }
     holes
@@ -39,11 +39,11 @@ fn mark_all(marks: &mut [u8; 22528], n: usize)
     requires { ⌜ 0 < n ⌝ }
     requires { ⌜ n ≤ 10 ⌝ }
 {
-    let end = 2 * plain_rows::count_rows(n);
-    let mut number = plain_rows::count_rows(n);
+    let end = 2 * test_rows::count_rows(n);
+    let mut number = test_rows::count_rows(n);
     while number < end {
-        let row = plain_rows::row_of_number(n, number);
-        if plain_rows::is_least(&row, n, 0) {
+        let row = test_rows::row_of_number(n, number);
+        if test_rows::is_least(&row, n, 0) {
             mark(marks, number, count_holes(&row, n));
         }
         number += 1;
@@ -72,14 +72,14 @@ fn ask_prefix(marks: &[u8; 22528], n: usize, t: usize, number: usize) -> Counts
     requires { ⌜ number < 2048 ⌝ }
     ensures { λ r. ⌜ (r .asked ≤ 11) × (r .agreed ≤ 11) × (r .begun ≤ 11) ⌝ }
 {
-    let row = plain_rows::row_of_number(t, number);
+    let row = test_rows::row_of_number(t, number);
     let mut agreed: usize = 0;
     let mut begun: usize = 0;
     let mut d: usize = 0;
     while d <= n {
         let answer = answer_number(prefix::ask(n, d, &row[..t]));
-        agreed += plain_rows::one_if(answer == marks[number * DENSITIES + d]);
-        begun += plain_rows::one_if(answer == 1);
+        agreed += test_rows::one_if(answer == marks[number * DENSITIES + d]);
+        begun += test_rows::one_if(answer == 1);
         d += 1;
     }
     Counts {
@@ -95,11 +95,11 @@ fn ask_length(marks: &[u8; 22528], n: usize, t: usize) -> Counts
     requires { ⌜ t ≤ mostStations ⌝ }
     ensures { λ r. ⌜ (r .asked ≤ 22528) × (r .agreed ≤ 22528) × (r .begun ≤ 22528) ⌝ }
 {
-    let end = 2 * plain_rows::count_rows(t);
+    let end = 2 * test_rows::count_rows(t);
     let mut asked: usize = 0;
     let mut agreed: usize = 0;
     let mut begun: usize = 0;
-    let mut number = plain_rows::count_rows(t);
+    let mut number = test_rows::count_rows(t);
     while number < end {
         let counts = ask_prefix(marks, n, t, number);
         asked += counts.asked;
@@ -144,10 +144,10 @@ fn compare(n: usize)
     let mut marks = [0u8; 22528];
     mark_all(&mut marks, n);
     let counts = ask_all(&marks, n);
-    plain_rows::print_named(b"", n);
-    plain_rows::print_named(b" asked ", counts.asked);
-    plain_rows::print_named(b" agreed ", counts.agreed);
-    plain_rows::print_named(b" yes ", counts.begun);
+    test_rows::print_named(b"", n);
+    test_rows::print_named(b" asked ", counts.asked);
+    test_rows::print_named(b" agreed ", counts.agreed);
+    test_rows::print_named(b" yes ", counts.begun);
     io::write_all(1, b"\n");
 }
 
@@ -163,8 +163,8 @@ fn compare_all() {
 
 fn print_answer(answer: PrefixAnswer) {
     match answer {
-        PrefixAnswer::Answered(yes) => plain_rows::print_truth(yes),
-        PrefixAnswer::Refused(r) => plain_rows::print_refusal(r),
+        PrefixAnswer::Answered(yes) => test_rows::print_truth(yes),
+        PrefixAnswer::Refused(r) => test_rows::print_refusal(r),
     }
 }
 
@@ -173,10 +173,10 @@ fn show(n: usize, d: usize, digits: &[u8])
     requires { ⌜ length (now digits) ≤ 80 ⌝ }
 {
     let t = digits.len();
-    let row = plain_rows::symbols(digits);
+    let row = test_rows::symbols(digits);
     let answer = prefix::ask(n, d, &row[..t]);
-    plain_rows::print_named(b"(", n);
-    plain_rows::print_named(b",", d);
+    test_rows::print_named(b"(", n);
+    test_rows::print_named(b",", d);
     io::write_all(1, b") prefix ");
     io::write_all(1, digits);
     io::write_all(1, b": ");

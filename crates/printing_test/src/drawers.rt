@@ -37,7 +37,7 @@ fn append_numbers(text: &mut [u8], n: usize, d: usize, kind: usize) -> usize
     requires { ⌜ 8192 ≡ length (now text) ⌝ }
     ensures { λ r. ⌜ (r ≤ 8192) × (8192 ≡ length (now (text .exit))) ⌝ }
 {
-    let a = crate::plain::append(text, 0, b"stations holes kind limit\n");
+    let a = test_rows::append(text, 0, b"stations holes kind limit\n");
     let b = crate::plain::append_number(text, a, n, b' ');
     let c = crate::plain::append_number(text, b, d, b' ');
     crate::plain::append_number(text, c, kind, b' ')
@@ -189,7 +189,7 @@ fn compare_limits(n: usize, d: usize, first: usize) -> Tally
     requires { ⌜ n ≤ 14 ⌝ }
 {
     let mut tally = crate::pieces::nothing();
-    let half = plain_walks::book::half_of(n);
+    let half = test_walks::book::half_of(n);
     let mut limit = first;
     while limit < 2 * half {
         let room = 128 + limit % 300;
@@ -204,7 +204,7 @@ fn compare_limits(n: usize, d: usize, first: usize) -> Tally
 pub fn compare_drawers(n: usize) -> Tally
     requires { ⌜ n ≤ 14 ⌝ }
 {
-    let ones = 2 * plain_walks::book::half_of(n) - 1;
+    let ones = 2 * test_walks::book::half_of(n) - 1;
     let first = if n < 8 { 0 } else { ones };
     let mut tally = crate::pieces::nothing();
     let mut d: usize = 0;

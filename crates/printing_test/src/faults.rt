@@ -21,7 +21,7 @@ fn append_many(text: &mut [u8], at: usize, byte: u8, count: usize) -> usize
     let mut next = at;
     let mut i: usize = 0;
     while i < count {
-        next = crate::plain::append(text, next, &[byte]);
+        next = test_rows::append(text, next, &[byte]);
         i += 1;
     }
     next
@@ -42,9 +42,9 @@ fn append_ones(text: &mut [u8], k: usize) -> usize
     requires { ⌜ 8192 ≡ length (now text) ⌝ }
     ensures { λ r. ⌜ (r ≤ 8192) × (8192 ≡ length (now (text .exit))) ⌝ }
 {
-    let at = crate::plain::append(text, 0, b"stations holes kind limit\n6 3 1 ");
+    let at = test_rows::append(text, 0, b"stations holes kind limit\n6 3 1 ");
     let next = append_many(text, at, b'1', k);
-    crate::plain::append(text, next, b"\n")
+    test_rows::append(text, next, b"\n")
 }
 
 // The input with fault number k.
@@ -52,7 +52,7 @@ fn append_input(text: &mut [u8], fault: Fault, k: usize) -> usize
     requires { ⌜ 8192 ≡ length (now text) ⌝ }
     ensures { λ r. ⌜ (r ≤ 8192) × (8192 ≡ length (now (text .exit))) ⌝ }
 {
-    let end = crate::plain::append(text, 0, b"stations holes kind limit\n6 3 1 111111\n");
+    let end = test_rows::append(text, 0, b"stations holes kind limit\n6 3 1 111111\n");
     match fault {
         Fault::Cut => k % 40,
         Fault::Name => change_name(text, end, k),

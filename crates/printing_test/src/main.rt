@@ -53,7 +53,7 @@ fn print_faults() {
 fn print_drawers() {
     let mut n: usize = 1;
     while n <= 14 {
-        plain_rows::print_named(b"stations ", n);
+        test_rows::print_named(b"stations ", n);
         pieces::print_tally(b"", drawers::compare_drawers(n));
         n += 1;
     }

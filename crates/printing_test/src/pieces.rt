@@ -1,7 +1,7 @@
 // Pieces of a text in lent buffers, compared byte by byte with the text that is due.
 use drawer_text::LONGEST_LINE;
-use plain_rows::FRESH;
 use printing::Printing;
+use test_rows::FRESH;
 ghost use Prim.Native.Nat.{_≤_};
 
 // Whether a buffer holds the next bytes of a text, and is as it was behind them.
@@ -86,10 +86,10 @@ pub fn nothing() -> Tally {
 
 pub fn sum(a: Tally, b: Tally) -> Tally {
     Tally {
-        compared: plain_walks::plus(a.compared, b.compared),
-        agreed: plain_walks::plus(a.agreed, b.agreed),
-        bytes: plain_walks::plus(a.bytes, b.bytes),
-        checks: plain_walks::plus(a.checks, b.checks),
+        compared: test_walks::plus(a.compared, b.compared),
+        agreed: test_walks::plus(a.agreed, b.agreed),
+        bytes: test_walks::plus(a.bytes, b.bytes),
+        checks: test_walks::plus(a.checks, b.checks),
     }
 }
 
@@ -98,7 +98,7 @@ fn check(text: &[u8]) -> usize {
     let mut rest: usize = 0;
     let mut i: usize = 0;
     while i < text.len() {
-        rest = (rest * 256 + plain_rows::wide(text[i])) % 10007;
+        rest = (rest * 256 + test_rows::wide(text[i])) % 10007;
         i += 1;
     }
     rest
@@ -114,7 +114,7 @@ pub fn compare(start: Printing, due: &[u8], first: usize, last: usize) -> Tally
     while room <= last {
         let one = Tally {
             compared: 1,
-            agreed: plain_rows::one_if(agree(start, due, room)),
+            agreed: test_rows::one_if(agree(start, due, room)),
             bytes: due.len(),
             checks: check,
         };
@@ -126,9 +126,9 @@ pub fn compare(start: Printing, due: &[u8], first: usize, last: usize) -> Tally
 
 pub fn print_tally(name: &[u8], tally: Tally) {
     io::write_all(1, name);
-    plain_rows::print_named(b" compared ", tally.compared);
-    plain_rows::print_named(b" agreed ", tally.agreed);
-    plain_rows::print_named(b" bytes ", tally.bytes);
-    plain_rows::print_named(b" checks ", tally.checks);
+    test_rows::print_named(b" compared ", tally.compared);
+    test_rows::print_named(b" agreed ", tally.agreed);
+    test_rows::print_named(b" bytes ", tally.bytes);
+    test_rows::print_named(b" checks ", tally.checks);
     io::write_all(1, b"\n");
 }

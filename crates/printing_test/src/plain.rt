@@ -4,24 +4,6 @@ ghost use Prim.Native.Nat.{_<_, _≤_, _*_};
 ghost use lib.ListN.{length};
 ghost use Rattle.refusal.specs.Verdicts.{mostStations};
 
-// A piece behind what a text holds, as far as there is room.
-pub fn append(text: &mut [u8], at: usize, piece: &[u8]) -> usize
-    requires { ⌜ (at ≤ 8192) × (8192 ≡ length (now text)) ⌝ }
-    ensures { λ r. ⌜ (r ≤ 8192) × (8192 ≡ length (now (text .exit))) ⌝ }
-{
-    let mut i = at;
-    let mut k: usize = 0;
-    while k < piece.len() {
-        if 8192 <= i {
-            return i;
-        }
-        text[i] = piece[k];
-        i += 1;
-        k += 1;
-    }
-    i
-}
-
 // A number, and a byte behind it.
 pub fn append_number(text: &mut [u8], at: usize, n: usize, behind: u8) -> usize
     requires { ⌜ (at ≤ 8192) × (8192 ≡ length (now text)) ⌝ }
@@ -29,8 +11,8 @@ pub fn append_number(text: &mut [u8], at: usize, n: usize, behind: u8) -> usize
 {
     let mut digits = [0u8; 20];
     let count = io::decimal(n as u64, &mut digits);
-    let next = append(text, at, &digits[..count]);
-    append(text, next, &[behind])
+    let next = test_rows::append(text, at, &digits[..count]);
+    test_rows::append(text, next, &[behind])
 }
 
 // The last n binary digits of a number, with another byte at one place, at none where that is 0; and a byte behind them.
@@ -46,7 +28,7 @@ pub fn append_row(
     requires { ⌜ (at ≤ 8192) × (8192 ≡ length (now text)) × (n ≤ mostStations) ⌝ }
     ensures { λ r. ⌜ (r ≤ 8192) × (8192 ≡ length (now (text .exit))) ⌝ }
 {
-    let row = plain_rows::row_of_number(n, number);
+    let row = test_rows::row_of_number(n, number);
     let mut next = at;
     let mut i: usize = 0;
     while i < n {
@@ -54,10 +36,10 @@ pub fn append_row(
         if i + 1 == wrong {
             symbol = byte;
         }
-        next = append(text, next, &[symbol]);
+        next = test_rows::append(text, next, &[symbol]);
         i += 1;
     }
-    append(text, next, &[behind])
+    test_rows::append(text, next, &[behind])
 }
 
 // A refusal's text.
@@ -65,7 +47,7 @@ pub fn append_refusal(text: &mut [u8], number: usize, place: usize) -> usize
     requires { ⌜ 8192 ≡ length (now text) ⌝ }
     ensures { λ r. ⌜ (r ≤ 8192) × (8192 ≡ length (now (text .exit))) ⌝ }
 {
-    let a = append(text, 0, b"refused place\n");
+    let a = test_rows::append(text, 0, b"refused place\n");
     let b = append_number(text, a, number, b' ');
     append_number(text, b, place, b'\n')
 }
@@ -74,10 +56,10 @@ pub fn append_refusal(text: &mut [u8], number: usize, place: usize) -> usize
 fn period(n: usize, number: usize) -> usize
     requires { ⌜ (0 < n) × (n ≤ 14) ⌝ }
 {
-    let row = plain_rows::row_of_number(n, number);
+    let row = test_rows::row_of_number(n, number);
     let mut j: usize = 1;
     while j < n {
-        if plain_rows::turn_order(&row, n, j, 0) == 1 {
+        if test_rows::turn_order(&row, n, j, 0) == 1 {
             return j;
         }
         j += 1;
@@ -108,17 +90,17 @@ pub fn append_drawer(text: &mut [u8], n: usize, d: usize, kind: u8, limit: usize
     requires { ⌜ (8192 ≡ length (now text)) × (0 < n) × (n ≤ 14) ⌝ }
     ensures { λ r. ⌜ (r ≤ 8192) × (8192 ≡ length (now (text .exit))) ⌝ }
 {
-    let half = plain_walks::book::half_of(n);
-    let mut book = plain_walks::book::opened(n, half, d, kind, limit % (2 * half));
-    let mut at = append(text, 0, b"number row period trials\n");
+    let half = test_walks::book::half_of(n);
+    let mut book = test_walks::book::opened(n, half, d, kind, limit % (2 * half));
+    let mut at = test_rows::append(text, 0, b"number row period trials\n");
     let mut number: usize = 1;
     while number < 1000 {
         if book.none {
-            let next = append(text, at, b"end - - ");
+            let next = test_rows::append(text, at, b"end - - ");
             return append_number(text, next, book.owed, b'\n');
         }
         at = append_ring(text, at, number, n, book.number, book.owed);
-        book = plain_walks::book::stepped(n, half, d, kind, book, 1000);
+        book = test_walks::book::stepped(n, half, d, kind, book, 1000);
         number += 1;
     }
     0

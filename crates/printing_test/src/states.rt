@@ -43,7 +43,7 @@ fn append_due(text: &mut [u8], i: usize) -> usize
     if i < 3 {
         return crate::plain::append_refusal(text, 22, 0);
     }
-    crate::plain::append(text, 0, b"18446744073709551615 0 1 0\nend - - 0\n")
+    test_rows::append(text, 0, b"18446744073709551615 0 1 0\nend - - 0\n")
 }
 
 fn compare(i: usize) -> Tally {

@@ -1,7 +1,7 @@
 // The walk against the book that a plain listing gives, its printed examples, and its refusals.
 mod shown;
 
-use plain_walks::book::Book;
+use test_walks::book::Book;
 use walk::Standing;
 use walk::Stepped;
 use walk::Walk;
@@ -23,11 +23,11 @@ struct Counts {
 
 fn sum(a: Counts, b: Counts) -> Counts {
     Counts {
-        walks: plain_walks::plus(a.walks, b.walks),
-        rings: plain_walks::plus(a.rings, b.rings),
-        trials: plain_walks::plus(a.trials, b.trials),
-        spent: plain_walks::plus(a.spent, b.spent),
-        differing: plain_walks::plus(a.differing, b.differing),
+        walks: test_walks::plus(a.walks, b.walks),
+        rings: test_walks::plus(a.rings, b.rings),
+        trials: test_walks::plus(a.trials, b.trials),
+        spent: test_walks::plus(a.spent, b.spent),
+        differing: test_walks::plus(a.differing, b.differing),
     }
 }
 
@@ -83,32 +83,32 @@ fn left_right(number: usize, n: usize, answer: u8, before: Walk, after: Walk) ->
     let at = after.at;
     match answer {
         0 => {
-            let line = plain_rows::row_of_number(n, number);
-            if !plain_walks::same_row(&row, &line) {
+            let line = test_rows::row_of_number(n, number);
+            if !test_walks::same_row(&row, &line) {
                 return false;
             }
-            plain_walks::standing_number(at) == 3
+            test_walks::standing_number(at) == 3
         }
         1 => {
-            if !plain_walks::same_row(&row, &[0u8; refusal::MOST_STATIONS]) {
+            if !test_walks::same_row(&row, &[0u8; refusal::MOST_STATIONS]) {
                 return false;
             }
-            plain_walks::standing_number(at) == 4
+            test_walks::standing_number(at) == 4
         }
-        20 => plain_walks::same_walk(before, after),
+        20 => test_walks::same_walk(before, after),
         _ => is_due(&row, at),
     }
 }
 
 // Whether a step does what the book says.
 fn agrees(book: Book, allowance: usize, n: usize, before: Walk, step: Stepped) -> bool {
-    let said = plain_walks::book::says(book, allowance);
+    let said = test_walks::book::says(book, allowance);
     let answer = step.answer;
     let after = step.walk;
-    if plain_walks::answer_number(answer) != said {
+    if test_walks::answer_number(answer) != said {
         return false;
     }
-    if step.trials != plain_walks::book::trials(book, allowance) as u64 {
+    if step.trials != test_walks::book::trials(book, allowance) as u64 {
         return false;
     }
     left_right(book.number, n, said, before, after)
@@ -117,13 +117,13 @@ fn agrees(book: Book, allowance: usize, n: usize, before: Walk, step: Stepped) -
 // A step, compared.
 fn counted(book: Book, allowance: usize, n: usize, before: Walk, step: Stepped) -> Counts {
     let answer = step.answer;
-    let said = plain_walks::answer_number(answer);
+    let said = test_walks::answer_number(answer);
     Counts {
         walks: 0,
-        rings: plain_rows::one_if(said == 0),
-        trials: plain_walks::few(step.trials),
-        spent: plain_rows::one_if(said == 21),
-        differing: plain_rows::one_if(!agrees(book, allowance, n, before, step)),
+        rings: test_rows::one_if(said == 0),
+        trials: test_walks::few(step.trials),
+        spent: test_rows::one_if(said == 21),
+        differing: test_rows::one_if(!agrees(book, allowance, n, before, step)),
     }
 }
 
@@ -134,15 +134,15 @@ fn compare(n: usize, half: usize, d: usize, kind: u8, limit: usize, pattern: usi
     requires { ⌜ half ≤ 8192 ⌝ }
     requires { ⌜ limit < 2 * half ⌝ }
 {
-    let row = plain_rows::row_of_number(n, limit);
+    let row = test_rows::row_of_number(n, limit);
     let opening = Walk::open(n, d, kind, &row[..n]);
     let mut w = opening.walk;
-    let mut book = plain_walks::book::opened(n, half, d, kind, limit);
+    let mut book = test_walks::book::opened(n, half, d, kind, limit);
     let mut counts = nothing();
     let mut i: usize = 0;
     while i < STEPS {
         let allowance = allowance_of(pattern, i);
-        let next = plain_walks::book::stepped(n, half, d, kind, book, allowance);
+        let next = test_walks::book::stepped(n, half, d, kind, book, allowance);
         let step = w.step(allowance as u64);
         counts = sum(counts, counted(book, allowance, n, w, step));
         if book.over {
@@ -172,7 +172,7 @@ fn compare_limits(
     requires { ⌜ 0 < apart ⌝ }
     requires { ⌜ apart < 1000 ⌝ }
 {
-    let half = plain_walks::book::half_of(n);
+    let half = test_walks::book::half_of(n);
     let mut counts = nothing();
     let mut limit = first;
     while limit < 2 * half {
@@ -200,12 +200,12 @@ fn compare_drawers(n: usize, first: usize, apart: usize, pattern: usize) -> Coun
 }
 
 fn print_counts(n: usize, counts: Counts) {
-    plain_rows::print_named(b"n ", n);
-    plain_rows::print_named(b": walks ", counts.walks);
-    plain_rows::print_named(b" rings ", counts.rings);
-    plain_rows::print_named(b" trials ", counts.trials);
-    plain_rows::print_named(b" spent ", counts.spent);
-    plain_rows::print_named(b" differing ", counts.differing);
+    test_rows::print_named(b"n ", n);
+    test_rows::print_named(b": walks ", counts.walks);
+    test_rows::print_named(b" rings ", counts.rings);
+    test_rows::print_named(b" trials ", counts.trials);
+    test_rows::print_named(b" spent ", counts.spent);
+    test_rows::print_named(b" differing ", counts.differing);
     io::write_all(1, b"\n");
 }
 
@@ -214,7 +214,7 @@ fn show_drawers() {
     io::write_all(1, b"limit of ones, plenty allowed\n");
     let mut n: usize = 1;
     while n <= 14 {
-        let ones = 2 * plain_walks::book::half_of(n) - 1;
+        let ones = 2 * test_walks::book::half_of(n) - 1;
         print_counts(n, compare_drawers(n, ones, 1, 0));
         n += 1;
     }

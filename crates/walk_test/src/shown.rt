@@ -5,9 +5,9 @@ use walk::Standing;
 use walk::Walk;
 
 fn print_line(number: usize, n: usize, row: [u8; refusal::MOST_STATIONS], trials: u64) {
-    plain_rows::print_named(b"", number);
+    test_rows::print_named(b"", number);
     io::write_all(1, b" ");
-    plain_rows::print_row(n, &row);
+    test_rows::print_row(n, &row);
     io::write_all(1, b" ");
     io::print_decimal(1, trials);
     io::write_all(1, b"\n");
@@ -18,7 +18,7 @@ fn print_end(said: u8, trials: u64) {
     if said == 1 {
         io::write_all(1, b"end - ");
     } else {
-        plain_rows::print_named(b"refused ", plain_rows::wide(said));
+        test_rows::print_named(b"refused ", test_rows::wide(said));
         io::write_all(1, b" trials ");
     }
     io::print_decimal(1, trials);
@@ -33,7 +33,7 @@ fn print_rings(opened: Walk) {
         let step = w.step(1000);
         w = step.walk;
         let answer = step.answer;
-        let said = plain_walks::answer_number(answer);
+        let said = test_walks::answer_number(answer);
         if said != 0 {
             print_end(said, step.trials);
             return;
@@ -54,13 +54,13 @@ fn is_no_walk(w: Walk) -> bool {
         row,
         at: Standing::Ended,
     };
-    plain_walks::same_walk(w, none)
+    test_walks::same_walk(w, none)
 }
 
 fn print_refused(r: Refusal, w: Walk) {
-    plain_rows::print_refusal(r);
+    test_rows::print_refusal(r);
     io::write_all(1, b" ended walk of (1,0):");
-    plain_walks::print_truth(is_no_walk(w));
+    test_walks::print_truth(is_no_walk(w));
 }
 
 // A walk at a limit that is written as digits.
@@ -68,14 +68,14 @@ fn show(n: usize, d: usize, kind: u8, digits: &[u8]) {
     if 80 < digits.len() {
         return;
     }
-    let row = plain_rows::symbols(digits);
+    let row = test_rows::symbols(digits);
     let t = digits.len();
     let opening = Walk::open(n, d, kind, &row[..t]);
     let answer = opening.answer;
     let w = opening.walk;
-    plain_rows::print_named(b"(", n);
-    plain_rows::print_named(b",", d);
-    plain_rows::print_named(b") kind ", plain_rows::wide(kind));
+    test_rows::print_named(b"(", n);
+    test_rows::print_named(b",", d);
+    test_rows::print_named(b") kind ", test_rows::wide(kind));
     io::write_all(1, b" limit ");
     io::write_all(1, digits);
     io::write_all(1, b"\n");

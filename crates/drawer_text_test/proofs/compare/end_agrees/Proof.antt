@@ -9,9 +9,9 @@ use Rattle.drawer_text_test.proofs.compare.end_agrees.Tie as tie
 
 record Inv (text out : List ℕ) (c i : ℕ) : Type 0 where
   upto : i ≤ c
-  inside : c ≤ 300
-  long : 300 ≡ length text
-  room : 300 ≡ length out
+  inside : c ≤ 8192
+  long : 8192 ≡ length text
+  room : 8192 ≡ length out
 
 abbrev Inv-loop : tie.InvT-loop
 Inv-loop n count text a b c out m i₀ i = Inv text out c i

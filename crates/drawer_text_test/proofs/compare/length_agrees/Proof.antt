@@ -9,8 +9,8 @@ use Rattle.drawer_text_test.proofs.compare.length_agrees.Tie as tie
 
 record Inv (size : ℕ) (text : List ℕ) (at i : ℕ) : Type 0 where
   upto : i ≤ size
-  inside : at ≤ 300
-  long : 300 ≡ length text
+  inside : at ≤ 8192
+  long : 8192 ≡ length text
 
 abbrev Inv-loop : tie.InvT-loop
 Inv-loop size text₀ at₀ i₀ t7 t8 text at i = Inv size text at i

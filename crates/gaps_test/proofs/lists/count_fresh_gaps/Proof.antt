@@ -1,0 +1,27 @@
+-- `gaps_test::lists::count_fresh_gaps` is safe and ends: it counts at most the numbers passed.
+use Prim.Native.Nat.{_≤_, _-_}
+use borrow.Author.Needs.{needs}
+use Rattle.gaps_test.proofs.lists.count_fresh_gaps.Statement.{statement}
+use Rattle.gaps_test.proofs.lists.count_fresh_gaps.Tie as tie
+
+abbrev Inv-loop : tie.InvT-loop
+Inv-loop buffer fresh₀ i₀ fresh i = (i ≤ 80) × (fresh ≤ i)
+
+abbrev μ-loop : tie.MeasureT-loop
+μ-loop buffer fresh₀ i₀ fresh i = 80 - i
+
+pub count-fresh-gaps-spec : {M : Type 1} → statement M
+count-fresh-gaps-spec =
+    tie.close
+    (tie.spec
+    Inv-loop
+    μ-loop
+    (λ c. search needs)
+    (λ c. search needs)
+    (λ c. search needs)
+    (λ c κs. search needs)
+    (λ c. search needs)
+    (λ c. search needs)
+    (λ c. search needs)
+    (λ c. search needs)
+    (λ c. search needs))

@@ -1,0 +1,27 @@
+-- `gaps_test::lists::print_gaps` is safe and ends.
+use Prim.Native.Nat.{_≤_, _-_}
+use borrow.Author.Needs.{needs}
+use Rattle.gaps_test.proofs.lists.print_gaps.Statement.{statement}
+use Rattle.gaps_test.proofs.lists.print_gaps.Tie as tie
+
+abbrev Inv-loop : tie.InvT-loop
+Inv-loop count list k₀ t4 k = k ≤ count
+
+abbrev μ-loop : tie.MeasureT-loop
+μ-loop count list k₀ t4 k = count - k
+
+pub print-gaps-spec : {M : Type 1} → statement M
+print-gaps-spec =
+    tie.close
+    (tie.spec
+    Inv-loop
+    μ-loop
+    (λ c. search needs)
+    (λ c. search needs)
+    (λ c. search needs)
+    (λ c. search needs)
+    (λ c κs. search needs)
+    (λ c. search needs)
+    (λ c. search needs)
+    (λ c. search needs)
+    (λ c. search needs))

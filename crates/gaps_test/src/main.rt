@@ -1,0 +1,9 @@
+// Gap lists: specimens, refusals in their order, and all rows of up to 10 stations against plain search.
+mod all_rows;
+mod lists;
+
+fn main() {
+    lists::show_rows();
+    lists::show_lists();
+    all_rows::compare_all();
+}

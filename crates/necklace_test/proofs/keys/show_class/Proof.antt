@@ -1,0 +1,27 @@
+-- `necklace_test::keys::show_class` is safe and ends.
+use mathlib.Core.Path.{sym}
+use native.Mathlib.Omega.{arith}
+use lib.Seq.{length-take-le}
+use borrow.Author.Needs.{needs}
+use Rattle.necklace_test.proofs.keys.show_class.Statement.{statement}
+use Rattle.necklace_test.proofs.keys.show_class.Tie as tie
+
+slice-aggregate-class : tie.Need-slice-aggregate-class
+slice-aggregate-class c = sym (length-take-le _ _ (omega arith))
+
+pub show-class-spec : {M : Type 1} → statement M
+show-class-spec =
+    tie.close
+    (tie.spec
+    (λ c κs. search needs)
+    (λ c. search needs)
+    slice-aggregate-class
+    (λ c κs. search needs)
+    (λ c. search needs)
+    (λ c κs. search needs)
+    (λ c. search needs)
+    (λ c κs. search needs)
+    (λ c κs. search needs)
+    (λ c. search needs)
+    (λ c κs. search needs)
+    (λ c. search needs))

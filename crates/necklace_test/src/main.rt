@@ -1,0 +1,9 @@
+// Key and class: specimens, refusals in their order, and all rows of up to 10 stations against plain search.
+mod all_rows;
+mod keys;
+
+fn main() {
+    keys::show_keys();
+    keys::show_classes();
+    all_rows::compare_all();
+}

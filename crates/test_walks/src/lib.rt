@@ -1,0 +1,103 @@
+// Walk records for the test programs: compared, numbered and printed. The drawer's book, by a plain listing.
+pub mod book;
+
+use walk::Answer;
+use walk::Standing;
+use walk::Walk;
+
+// A ring 0, none 1, or the refusal's number.
+pub fn answer_number(answer: Answer) -> u8 {
+    match answer {
+        Answer::Ring => 0,
+        Answer::None => 1,
+        Answer::Refused(r) => refusal::number(r),
+    }
+}
+
+// Limit 0, Down 1, Up 2, Given 3, Ended 4.
+pub fn standing_number(at: Standing) -> u8 {
+    match at {
+        Standing::Limit => 0,
+        Standing::Down(_) => 1,
+        Standing::Up(_) => 2,
+        Standing::Given => 3,
+        Standing::Ended => 4,
+    }
+}
+
+// The place beside Down and Up, else 0.
+pub fn standing_place(at: Standing) -> usize {
+    match at {
+        Standing::Limit => 0,
+        Standing::Down(p) => p,
+        Standing::Up(p) => p,
+        Standing::Given => 0,
+        Standing::Ended => 0,
+    }
+}
+
+// Whether all 64 bytes are the same.
+pub fn same_row(row: &[u8; refusal::MOST_STATIONS], other: &[u8; refusal::MOST_STATIONS]) -> bool {
+    let mut i: usize = 0;
+    while i < refusal::MOST_STATIONS {
+        if row[i] != other[i] {
+            return false;
+        }
+        i += 1;
+    }
+    true
+}
+
+pub fn same_standing(at: Standing, other: Standing) -> bool {
+    if standing_number(at) != standing_number(other) {
+        return false;
+    }
+    standing_place(at) == standing_place(other)
+}
+
+pub fn same_walk(w: Walk, other: Walk) -> bool {
+    let row = w.row;
+    let at = w.at;
+    let other_row = other.row;
+    let other_at = other.at;
+    if w.n != other.n {
+        return false;
+    }
+    if w.d != other.d {
+        return false;
+    }
+    if w.kind != other.kind {
+        return false;
+    }
+    if !same_row(&row, &other_row) {
+        return false;
+    }
+    same_standing(at, other_at)
+}
+
+// ---- sums, none above a billion
+
+pub fn plus(x: usize, y: usize) -> usize {
+    let most: usize = 1000000000;
+    if most < x {
+        return most;
+    }
+    if most < y {
+        return most;
+    }
+    x + y
+}
+
+// A number of trials to be added up.
+pub fn few(trials: u64) -> usize {
+    if trials < 1000 { trials as usize } else { 1000 }
+}
+
+// ---- printing
+
+// The end of a line: yes or no.
+pub fn print_truth(holds: bool) {
+    io::write_all(1, b" ");
+    test_rows::print_truth(holds);
+    io::write_all(1, b"\n");
+}

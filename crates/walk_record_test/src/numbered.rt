@@ -1,0 +1,97 @@
+// All records of a few stations.
+use crate::outcomes;
+use crate::outcomes::Outcomes;
+use walk::Standing;
+use walk::Walk;
+ghost use Prim.Native.Nat.{_<_, _≤_};
+ghost use Rattle.refusal.specs.Verdicts.{mostStations};
+
+fn kind_of(number: usize) -> u8 {
+    match number {
+        0 => 0,
+        1 => 1,
+        2 => 2,
+        _ => 3,
+    }
+}
+
+// Limit, Given, Ended, then Down 0, Up 0, Down 1, Up 1 and so on.
+fn standing_of(number: usize) -> Standing {
+    if number == 0 {
+        return Standing::Limit;
+    }
+    if number == 1 {
+        return Standing::Given;
+    }
+    if number < 3 {
+        return Standing::Ended;
+    }
+    let place = (number - 3) / 2;
+    if number % 2 == 1 {
+        Standing::Down(place)
+    } else {
+        Standing::Up(place)
+    }
+}
+
+// The records of n stations, numbered: kinds 0 to 3, up to n + 1 holes, all rows, all standings with places up to n + 1.
+fn record(n: usize, rows: usize, index: usize) -> Walk
+    requires { ⌜ n ≤ mostStations ⌝ }
+    requires { ⌜ 0 < rows ⌝ }
+{
+    let kinds = index / 4;
+    let densities = kinds / (n + 2);
+    let row = test_rows::row_of_number(n, densities % rows);
+    let at = standing_of(densities / rows);
+    Walk {
+        n,
+        d: kinds % (n + 2),
+        kind: kind_of(index % 4),
+        row,
+        at,
+    }
+}
+
+fn step_all(n: usize, rows: usize, records: usize, allowance: u64) -> Outcomes
+    requires { ⌜ n ≤ mostStations ⌝ }
+    requires { ⌜ 0 < rows ⌝ }
+{
+    let mut outcomes = outcomes::nothing();
+    let mut index: usize = 0;
+    while index < records {
+        outcomes = outcomes::sum(
+            outcomes,
+            outcomes::outcome(record(n, rows, index), allowance),
+        );
+        index += 1;
+    }
+    outcomes
+}
+
+// n stations have 4 (n + 2) (2 n + 7) records for each row.
+fn show_all(n: usize, rows: usize, records: usize)
+    requires { ⌜ n ≤ mostStations ⌝ }
+    requires { ⌜ 0 < rows ⌝ }
+{
+    let mut allowance: usize = 0;
+    while allowance < 5 {
+        test_rows::print_named(b"n ", n);
+        test_rows::print_named(b" records ", records);
+        test_rows::print_named(b" allowed ", allowance);
+        outcomes::print_outcomes(step_all(n, rows, records, allowance as u64));
+        allowance += 1;
+    }
+    test_rows::print_named(b"n ", n);
+    test_rows::print_named(b" records ", records);
+    io::write_all(1, b" plenty allowed");
+    outcomes::print_outcomes(step_all(n, rows, records, 1000));
+}
+
+pub fn show_records() {
+    show_all(1, 2, 216);
+    show_all(2, 4, 704);
+    show_all(3, 8, 2080);
+    show_all(4, 16, 5760);
+    show_all(5, 32, 15232);
+    show_all(6, 64, 38912);
+}

@@ -1,0 +1,105 @@
+// What steps say of many records, added up.
+use walk::Walk;
+
+// Steps by their answer; how many that were refused 20 or 22 changed the record or counted trials; and the sums of trials, of the rows as numbers and of the places.
+pub struct Outcomes {
+    pub rings: usize,
+    pub nones: usize,
+    pub ended: usize,
+    pub spent: usize,
+    pub unfit: usize,
+    pub changed: usize,
+    pub trials: usize,
+    pub rows: usize,
+    pub places: usize,
+}
+
+// The number whose binary digits are the first n symbols, modulo a prime.
+fn number_of(n: usize, row: &[u8; refusal::MOST_STATIONS]) -> usize {
+    let mut number: usize = 0;
+    let mut i: usize = 0;
+    while i < n {
+        if refusal::MOST_STATIONS <= i {
+            return number;
+        }
+        number = (2 * number + test_rows::wide(row[i])) % 10007;
+        i += 1;
+    }
+    number
+}
+
+// Whether a step is refused 20 or 22 and yet changed the record or counted trials.
+fn is_changed(said: u8, w: Walk, after: Walk, trials: u64) -> bool {
+    if said < 20 {
+        return false;
+    }
+    if said == 21 {
+        return false;
+    }
+    if trials != 0 {
+        return true;
+    }
+    !test_walks::same_walk(w, after)
+}
+
+// A step of a record.
+pub fn outcome(w: Walk, allowance: u64) -> Outcomes {
+    let step = w.step(allowance);
+    let answer = step.answer;
+    let after = step.walk;
+    let row = after.row;
+    let at = after.at;
+    let said = test_walks::answer_number(answer);
+    Outcomes {
+        rings: test_rows::one_if(said == 0),
+        nones: test_rows::one_if(said == 1),
+        ended: test_rows::one_if(said == 20),
+        spent: test_rows::one_if(said == 21),
+        unfit: test_rows::one_if(said == 22),
+        changed: test_rows::one_if(is_changed(said, w, after, step.trials)),
+        trials: test_walks::few(step.trials),
+        rows: number_of(after.n, &row),
+        places: test_walks::standing_place(at),
+    }
+}
+
+pub fn sum(a: Outcomes, b: Outcomes) -> Outcomes {
+    Outcomes {
+        rings: test_walks::plus(a.rings, b.rings),
+        nones: test_walks::plus(a.nones, b.nones),
+        ended: test_walks::plus(a.ended, b.ended),
+        spent: test_walks::plus(a.spent, b.spent),
+        unfit: test_walks::plus(a.unfit, b.unfit),
+        changed: test_walks::plus(a.changed, b.changed),
+        trials: test_walks::plus(a.trials, b.trials),
+        rows: test_walks::plus(a.rows, b.rows),
+        places: test_walks::plus(a.places, b.places),
+    }
+}
+
+pub fn nothing() -> Outcomes {
+    Outcomes {
+        rings: 0,
+        nones: 0,
+        ended: 0,
+        spent: 0,
+        unfit: 0,
+        changed: 0,
+        trials: 0,
+        rows: 0,
+        places: 0,
+    }
+}
+
+pub fn print_outcomes(outcomes: Outcomes) {
+    test_rows::print_named(b" rings ", outcomes.rings);
+    test_rows::print_named(b" none ", outcomes.nones);
+    test_rows::print_named(b" ended ", outcomes.ended);
+    test_rows::print_named(b" spent ", outcomes.spent);
+    test_rows::print_named(b" unfit ", outcomes.unfit);
+    test_rows::print_named(b" changed ", outcomes.changed);
+    test_rows::print_named(b" trials ", outcomes.trials);
+    test_rows::print_named(b" rows ", outcomes.rows);
+    test_rows::print_named(b" places ", outcomes.places);
+    io::write_all(1, b"\n");
+}
