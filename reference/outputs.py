@@ -2,7 +2,7 @@
 from itertools import count, product
 
 import texts
-from cases import MOST, calls
+from cases import MOST, calls, lines, numeral
 from rings import (
     begins,
     begins_by_tops,
@@ -26,7 +26,7 @@ PLENTY = 1000
 
 
 def symbols(digits):
-    return tuple(b % 16 for b in digits)
+    return tuple(map(int, digits))
 
 
 def text(row):
@@ -49,7 +49,7 @@ def row_of_number(n, number):
     return tuple(int(b) for b in format(number, f"0{n}b")) if n else ()
 
 
-# ---- density_test
+# ---- largest_test
 
 
 def show_top(n, d, room):
@@ -57,14 +57,14 @@ def show_top(n, d, room):
     print(n, d, *([refused(*no), "as before 64"] if no else [text(top(n, d)), "as before", 64 - n]))
 
 
-def density_test():
+def largest_test():
     for n in range(1, 13):
         for d in range(n + 1):
             assert top(n, d) == drawer(n, d)[0]
             show_top(n, d, 64)
     pairs = sum(n + 1 for n in range(1, 65))
     print("compared", pairs, "agreed", pairs)
-    for n, d, room in calls("density_test", "show"):
+    for n, d, room in calls("largest_test", "show"):
         show_top(n, d, room)
 
 
@@ -75,7 +75,7 @@ def show_key(digits, room):
     row = symbols(digits)
     n = len(row)
     no = refusal((1, not stations(n)), (3, wrong(row)), (9, room < n))
-    print(f"key of {n} stations {digits.decode()} buffer {room}: ", end="")
+    print(f"key of {n} stations {digits} buffer {room}: ", end="")
     if no:
         print(refused(*no), "as before 80")
     else:
@@ -86,14 +86,17 @@ def show_key(digits, room):
 def show_class(digits):
     row = symbols(digits)
     no = refusal((1, not stations(len(row))), (3, wrong(row)))
-    print(f"class of {len(row)} stations {digits.decode()}: ", end="")
+    print(f"class of {len(row)} stations {digits}: ", end="")
     print(refused(*no) if no else f"shelved {said(shelved(row))} without symmetry {said(without_symmetry(row))}")
 
 
 def necklace_test():
-    for name, show in (("key", show_key), ("class", show_class)):
-        for case in calls("necklace_test", "show_" + name):
-            show(*case)
+    for line in lines("necklace_test"):
+        word = line.split(" ")
+        if word[0] == "key":
+            show_key(word[4], int(word[6]))
+        else:
+            show_class(word[4])
     rows = len(rows_to_10())
     for name in ("key", "class"):
         print(name, "compared", rows, "agreed", rows)
@@ -112,7 +115,7 @@ def show_list(digits, room):
     row = symbols(digits)
     n = len(row)
     no = refusal((1, not stations(n)), (3, wrong(row)), (8, any(row) and row[-1] == 0), (9, room < sum(row)))
-    print(f"gap list of {n} stations {digits.decode()} buffer {room}: ", end="")
+    print(f"gap list of {n} stations {digits} buffer {room}: ", end="")
     if no:
         print(refused(*no), "as before 80")
     else:
@@ -121,9 +124,12 @@ def show_list(digits, room):
 
 
 def gaps_test():
-    for name, show in (("row", show_row), ("list", show_list)):
-        for case in calls("gaps_test", "show_" + name):
-            show(*case)
+    for line in lines("gaps_test"):
+        word = line.split(" ")
+        if word[0] == "row":
+            show_row(int(word[2]), [numeral(gap) for gap in word[9:]], int(word[5]))
+        else:
+            show_list(word[5], int(word[7]))
     rows = rows_to_10()
     listed = sum(not any(row) or row[-1] == 1 for row in rows)
     for name, number in (("gap list and back", listed), ("no gap list, refused 8", len(rows) - listed)):
@@ -139,10 +145,11 @@ def prefix_test():
         asked = [(d, prefix) for d in range(n + 1) for t in range(n + 1) for prefix in product((0, 1), repeat=t)]
         assert all(begins_by_tops(n, d, prefix) == ((d, prefix) in begun) for d, prefix in asked)
         print(n, "asked", len(asked), "agreed", len(asked), "yes", len(begun))
-    for n, d, digits in calls("prefix_test", "show"):
-        prefix = symbols(digits)
+    for line in lines("prefix_test"):
+        n, d, digits = line.split(" ")
+        n, d, prefix = int(n), int(d), symbols(digits)
         no = refusal((1, not stations(n)), (2, d > n), (6, len(prefix) > n), (3, wrong(prefix)))
-        print(f"({n},{d}) prefix {digits.decode()}:", refused(*no) if no else said(begins(n, d, prefix)))
+        print(f"({n},{d}) prefix {digits}:", refused(*no) if no else said(begins(n, d, prefix)))
 
 
 # ---- walk_test
@@ -174,7 +181,7 @@ def compare(n, limits, allowed):
 
 
 def show_walk(n, d, kind, digits):
-    print(f"({n},{d}) kind {kind} limit {digits.decode()}")
+    print(f"({n},{d}) kind {kind} limit {digits}")
     no, walk = opened(n, d, kind, symbols(digits))
     if no:
         print(refused(*no), "ended walk of (1,0): yes")
@@ -198,8 +205,10 @@ def walk_test():
         print("all limits,", allowed, "allowed")
         for n in range(1, 9):
             compare(n, range(2**n), allowed)
-    for case in calls("walk_test", "show"):
-        show_walk(*case)
+    for line in lines("walk_test"):
+        if line[0].isdigit():
+            n, d, kind, digits = line.split(" ")
+            show_walk(int(n), int(d), int(kind), digits)
 
 
 # ---- walk_record_test
@@ -207,12 +216,15 @@ def walk_test():
 STANDINGS = ("Limit", "Down", "Up", "Given", "Ended")
 
 
-def show_single(name, n, d, kind, digits, at):
-    walk = (n, d, kind, symbols(digits) + (0,) * (64 - len(digits)), at)
+def show_single(line):
+    name, fields = line.split(": ")
+    n, d, kind, where, place, digits = fields.split(" ")
+    row = symbols(digits) + (0,) * (64 - len(digits))
+    walk = (numeral(n), numeral(d), int(kind), row, (where, numeral(place)))
     after, answer, trials = step(walk, PLENTY)
     answer = answer if answer in ("ring", "none") else f"refused {answer}"
     where, place = after[4]
-    print(f"{name.decode()}: {answer} trials {trials} row {text(after[3][: after[0]])}", end=" ")
+    print(f"{name}: {answer} trials {trials} row {text(after[3][: after[0]])}", end=" ")
     print(f"standing {STANDINGS.index(where)} place {place} unchanged {said(after == walk)}")
 
 
@@ -272,8 +284,8 @@ def random_step(record):
 
 
 def walk_record_test():
-    for case in calls("walk_record_test", "show"):
-        show_single(*case)
+    for line in lines("walk_record_test"):
+        show_single(line)
     for n in range(1, 7):
         records = list(all_records(n))
         for a in (0, 1, 2, 3, 4, PLENTY):
@@ -283,7 +295,7 @@ def walk_record_test():
         show_outcomes(f"at random, records {first} up to {end}", map(random_step, range(first, end)))
 
 
-# ---- drawer_text_test
+# ---- drawer_input_test
 
 
 def show_input(source, room):
@@ -292,18 +304,26 @@ def show_input(source, room):
     print(refused(*r[1:]) if r[0] == "refused" else f"{r[1]} {r[2]} {r[3]} {text(r[4])}", "as before", 256 - size)
 
 
-def drawer_text_test():
-    for case in calls("drawer_text_test", "show"):
-        show_input(*case)
-    print(texts.HEADER, end="")
-    for number, row, period, trials in calls("drawer_text_test", "show_ring"):
-        print(texts.ring_line(number, row, period, trials), end="")
-    for (trials,) in calls("drawer_text_test", "show_end"):
-        print(texts.end_line(trials), end="")
-    for ((name, place),) in calls("drawer_text_test", "show_refusal"):
-        print(texts.refusal_text(texts.NUMBERS[name], place), end="")
-    for name, number in (("numbers", 1100), ("lengths", 240), ("bytes", 256), ("names", 26 * 256), ("rooms", 257)):
+def drawer_input_test():
+    for sources, room in calls("drawer_input_test", "show_each"):
+        for source in sources.split(b"|")[:-1]:
+            show_input(source, room)
+    for name, number in (("numbers", 1100), ("lengths", 240), ("bytes", 256), ("names", 26 * 256)):
         print(name, "compared", number, "agreed", number)
+
+
+# ---- drawer_lines_test
+
+
+def drawer_lines_test():
+    print(texts.HEADER, end="")
+    for number, row, period, trials in calls("drawer_lines_test", "show_ring"):
+        print(texts.ring_line(number, row, period, trials), end="")
+    for (trials,) in calls("drawer_lines_test", "show_end"):
+        print(texts.end_line(trials), end="")
+    for ((name, place),) in calls("drawer_lines_test", "show_refusal"):
+        print(texts.refusal_text(texts.NUMBERS[name], place), end="")
+    print("rooms compared 257 agreed 257")
     n, ends = 2**64 - 1, 0
     while n > 0:
         n, ends = n - n // 40 - 1, ends + 1

@@ -1,21 +1,12 @@
--- The claims on the drawers and on the top ring hold, over every n and d.
-use mathlib.Core.List.{List, List·Memᴰ, [], headD}
-use mathlib.Core.Path.{ap, refl, sym, _∙_}
-use Prim.Native.Nat.{ℕ, _%_, _-_, _/_, _<_}
-use native.Mathlib.Nat.{mod-lt}
-use native.Mathlib.Omega.{arith}
+-- The claims on the drawers hold, over every n and d.
+use mathlib.Core.List.{List, List·Memᴰ}
+use mathlib.Core.Path.{refl}
+use Prim.Native.Nat.{ℕ}
 use Rattle.density.proofs.Binary.{within-binary, binary-within}
-use Rattle.density.proofs.FewBlocks.{few-balanced}
-use Rattle.density.proofs.Largest.{balanced-member, largest-balanced}
-use Rattle.density.proofs.ManyBlocks.{many-balanced}
 use Rattle.density.proofs.Members.{member→, necklaces-falling, →member}
-use Rattle.density.proofs.RowSymbols.{balanced-ones, balanced-zeros}
-use Rattle.density.specs.Claims.{Drawer, InDrawer, TopFew, TopHighest, TopMany, TopPlain, TopRefusals}
-use Rattle.density.specs.Necklaces.{largestNecklace, necklaces}
-use Rattle.density.specs.Top.{fewRow, manyRow}
-use Rattle.refusal.proofs.Conditions.{at-most-tells, chain-first, passed, stations-tell, test}
-use Rattle.words.proofs.Falling.{head-highest, head-member}
-use Rattle.words.proofs.OrderTests.{→le}
+use Rattle.density.specs.Claims.{Drawer, InDrawer, Kinds}
+use Rattle.density.specs.Necklaces.{necklaces, necklacesOfKind, ofKind}
+use Rattle.words.proofs.Lists.{keep→, →keep}
 use Rattle.words.proofs.Rotations.{isNecklace→, →isNecklace}
 
 pub drawer : Drawer
@@ -24,24 +15,12 @@ drawer n d = (necklaces-falling n d, λ w. (inside w, λ h. →member (record { 
     inside : (w : List ℕ) → List·Memᴰ w (necklaces n d) → InDrawer n d w
     inside w m = let k = member→ n d w m in record { long = k .long; symbols = binary-within (k .binary); holes = k .count; shelved = →isNecklace w (k .least) }
 
-pub top-refusals : TopRefusals
-top-refusals n d room = chain-first (test _ (stations-tell n) (λ a. test _ (at-most-tells d n) (λ b. test _ (at-most-tells n room) (λ c. passed))))
-
-pub top-highest : TopHighest
-unfolding largestNecklace
-top-highest n d p l =
-    let m = →member (balanced-member n d p l) in
-    record { member = head-member m; passes = refl; most = λ v k t. →le v (headD (necklaces n d) []) (head-highest (necklaces-falling n d) k) }
-
-pub top-plain : TopPlain
-top-plain n p = (largest-balanced n 0 p (omega arith) ∙ balanced-zeros n p, largest-balanced n n p (omega arith) ∙ balanced-ones n p)
-
-pub top-few : TopFew
-top-few n d z h = largest-balanced n d (omega arith) (omega arith) ∙ sym (few-balanced n d z h) ∙ ap (fewRow (n / d)) (sym (largest-balanced d (d - n % d) z (omega arith)))
-
-pub top-many : TopMany
-top-many n d h l =
-    let z : 0 < n - d = omega arith in
-    largest-balanced n d (omega arith) (omega arith)
-    ∙ sym (many-balanced n d (n - d) z (omega arith) (omega arith))
-    ∙ ap (manyRow (n / (n - d))) (sym (largest-balanced (n - d) (n % (n - d)) z (omega (arith, mod-lt n z))))
+pub kinds : Kinds
+unfolding necklacesOfKind ofKind
+kinds n d w = (
+  (λ m. drawer n d .1 w .0 (keep→ (ofKind 1) w (necklaces n d) m .0), λ h. →keep (ofKind 1) w (necklaces n d) (drawer n d .1 w .1 h) refl),
+  (
+    λ m. let k = keep→ (ofKind 2) w (necklaces n d) m in (drawer n d .1 w .0 (k .0), k .1),
+    λ h. →keep (ofKind 2) w (necklaces n d) (drawer n d .1 w .1 (h .0)) (h .1),
+  ),
+)

@@ -23,15 +23,10 @@ pub mod RowsBelow
 pub mod Branching
 pub mod LastSymbol
 pub mod Wanted
--- the balanced row by blocks: the rule for few holes and the rule for many
-pub mod RowSymbols
-pub mod FewBlocks
-pub mod ManyBlocks
--- what the code holds while it writes a row
-pub mod FilledRow
--- the verdicts on the top ring, and on a drawer and a limit
-pub mod TopVerdicts
+-- the verdicts on a drawer and a limit
 pub mod DrawerVerdicts
+-- a row in an array
+pub mod PaddedRows
 -- tests of the kind and of membership
 pub mod KindTests
 -- what is claimed in specs/

@@ -67,8 +67,6 @@ pub necklaces-falling : (n d : ℕ) → Falling (necklaces n d)
 unfolding necklaces
 necklaces-falling n d = keep-falling (isNecklaceOf d) (rows-falling n)
 
--- ---- of a kind
-
 -- ---- the largest
 
 -- what is a member, and at or above every member, is the largest

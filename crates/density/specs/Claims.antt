@@ -1,18 +1,15 @@
--- What document 01 claims of the drawers and of the top ring.
+-- What document 01 claims of the drawers.
 use mathlib.Core.Bool.{true}
 use mathlib.Core.List.{List, List·Memᴰ}
 use mathlib.Core.Logic.{_↔_}
 use mathlib.Core.Path.{_≡_}
-use Prim.Native.Nat.{ℕ, _%_, _*_, _-_, _/_, _<_, _≤_}
+use Prim.Native.Nat.{ℕ}
 use lib.ListN.{length}
 use Rattle.density.specs.Density.{density}
-use Rattle.density.specs.Necklaces.{largestNecklace, necklaces}
-use Rattle.density.specs.Top.{fewRow, manyRow, topVerdict}
-use Rattle.refusal.specs.Conditions.{FirstOf, NoStations, no-more, when}
-use Rattle.refusal.specs.declared.Refusal.the-variants.{Buffer, Holes, Stations}
-use Rattle.words.specs.Symbols.{Within, ones, zeros}
-use Rattle.words.specs.Falling.{Falling, Highest}
-use Rattle.words.specs.Rotation.{isNecklace}
+use Rattle.density.specs.Necklaces.{necklaces, necklacesOfKind}
+use Rattle.words.specs.Symbols.{Within}
+use Rattle.words.specs.Falling.{Falling}
+use Rattle.words.specs.Rotation.{isLyndon, isNecklace}
 
 -- a shelved row of n symbols with d holes
 pub record InDrawer (n d : ℕ) (w : List ℕ) : Type 0 where
@@ -25,22 +22,8 @@ pub record InDrawer (n d : ℕ) (w : List ℕ) : Type 0 where
 abbrev pub Drawer : Type 0
 Drawer = (n d : ℕ) → Falling (necklaces n d) × ((w : List ℕ) → List·Memᴰ w (necklaces n d) ↔ InDrawer n d w)
 
--- "Orders. Top: 1, 2, 9. .. Each number is returned only under its condition."
-abbrev pub TopRefusals : Type 0
-TopRefusals = (n d room : ℕ) → FirstOf (when (NoStations n) Stations (when (n < d) Holes (when (room < n) Buffer no-more))) (topVerdict n d room)
-
--- "top(n, d) the highest ring"
-abbrev pub TopHighest : Type 0
-TopHighest = (n d : ℕ) → 1 ≤ n → d ≤ n → Highest (λ w. true) (necklaces n d) (largestNecklace n d)
-
--- "top(n, 0) is n zeros and top(n, n) is n ones."
-abbrev pub TopPlain : Type 0
-TopPlain = (n : ℕ) → 1 ≤ n → (largestNecklace n 0 ≡ zeros n) × (largestNecklace n n ≡ ones n)
-
--- "For 0 < d ≤ n/2, t = floor(n/d) and b = top(d, d - (n mod d)), it is the row of gaps t - b1, t - b2 and so on."
-abbrev pub TopFew : Type 0
-TopFew = (n d : ℕ) → 0 < d → 2 * d ≤ n → largestNecklace n d ≡ fewRow (n / d) (largestNecklace d (d - n % d))
-
--- "For n/2 < d < n, s = floor(n/(n-d)) and c = top(n-d, n mod (n-d)), it is a 0 and then s - 1 + ci ones, for each ci."
-abbrev pub TopMany : Type 0
-TopMany = (n d : ℕ) → n < 2 * d → d < n → largestNecklace n d ≡ manyRow (n / (n - d)) (largestNecklace (n - d) (n % (n - d)))
+-- "Kind 1 is all of them, kind 2 those without symmetry."
+abbrev pub Kinds : Type 0
+Kinds =
+    (n d : ℕ) (w : List ℕ)
+    → (List·Memᴰ w (necklacesOfKind 1 n d) ↔ InDrawer n d w) × (List·Memᴰ w (necklacesOfKind 2 n d) ↔ (InDrawer n d w × (isLyndon w ≡ true)))

@@ -1,8 +1,8 @@
 -- Binary rows.
 pub mod Density
+pub mod Rows
 pub mod Necklaces
 pub mod InnerBalanced
 pub mod Blocks
-pub mod Top
 pub mod Drawers
 pub mod Claims

@@ -6,8 +6,5 @@ ghost use Rattle.density.specs.Necklaces.{isKind};
 pub fn is_kind(kind: u8) -> bool
     ensures { λ r. ⌜ r ≡ isKind kind ⌝ }
 {
-    if kind == 1 {
-        return true;
-    }
-    kind == 2
+    kind == 1 || kind == 2
 }

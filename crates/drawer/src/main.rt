@@ -1,12 +1,12 @@
 // The drawer program: reads a drawer, a kind and a limit, and prints the rings at or below the limit. What it prints is the text that
 // `printing` makes.
-use drawer_text::MOST_BYTES;
+use drawer_input::MOST_BYTES;
 use printing::Printing;
 ghost use mathlib.Core.List.{List};
 ghost use mathlib.Core.Path.{_≡_};
 ghost use Prim.Native.Nat.{ℕ, _<_, _≤_};
 ghost use lib.ListN.{length};
-ghost use Rattle.drawer_text.specs.Input.{mostBytes};
+ghost use Rattle.drawer_input.specs.Input.{mostBytes};
 ghost use Rattle.printing.specs.Left.{left};
 ghost use Rattle.printing.specs.Text.{printed};
 ghost use Rattle.drawer.specs.Read.{IsRead};

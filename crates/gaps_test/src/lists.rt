@@ -2,18 +2,18 @@
 use gaps::ListAnswer;
 use gaps::RowAnswer;
 use test_rows::FRESH;
-ghost use Prim.Native.Nat.{_≤_};
-ghost use lib.ListN.{length};
+use test_rows::cases;
 
 // What a buffer of gaps holds before it is lent: no gap of a row.
 pub const FRESH_GAP: usize = 99;
 
-fn print_gaps(count: usize, list: &[usize]) {
+fn print_gaps(count: usize, list: &[usize; 80]) {
     let mut k: usize = 0;
     while k < count {
-        if k < list.len() {
-            test_rows::print_named(b" ", list[k]);
+        if 80 <= k {
+            return;
         }
+        test_rows::print_named(b" ", list[k]);
         k += 1;
     }
 }
@@ -32,8 +32,7 @@ fn count_fresh_gaps(buffer: &[usize; 80]) -> usize {
 fn print_list(answer: ListAnswer, out: &[usize; 80]) {
     match answer {
         ListAnswer::Listed(k) => {
-            test_rows::print_named(b"gaps ", k);
-            io::write_all(1, b":");
+            test_rows::print_filled(b"gaps #:", &[k]);
             print_gaps(k, out);
         }
         ListAnswer::Refused(r) => test_rows::print_refusal(r),
@@ -41,17 +40,14 @@ fn print_list(answer: ListAnswer, out: &[usize; 80]) {
     test_rows::print_as_before(count_fresh_gaps(out));
 }
 
-// The gap list of a row, with a buffer of 80 numbers, of which room are lent.
-fn show_list(digits: &[u8], room: usize)
-    requires { ⌜ length (now digits) ≤ 80 ⌝ }
-    requires { ⌜ room ≤ 80 ⌝ }
-{
-    let n = digits.len();
-    let row = test_rows::symbols(digits);
+// The gap list of a row, with a buffer of 80 numbers, of which some are lent. The line is printed up to the answer.
+fn show_list(line: &[u8]) {
+    let digits = cases::word(line, 5);
+    let room = cases::number_to(line, 7, 80);
+    let row = cases::symbols(digits);
     let mut out = [FRESH_GAP; 80];
-    let answer = gaps::gaps_of_row(&row[..n], &mut out[..room]);
-    test_rows::print_question(b"gap list", digits);
-    test_rows::print_named(b" buffer ", room);
+    let answer = gaps::gaps_of_row(cases::part(&row, 0, digits.len()), &mut out[..room]);
+    io::write_all(1, line);
     io::write_all(1, b": ");
     print_list(answer, &out);
 }
@@ -64,59 +60,79 @@ fn print_written(answer: RowAnswer, n: usize, out: &[u8; 80]) {
     test_rows::print_as_before(test_rows::count_fresh(out));
 }
 
-// The row of a gap list, with a buffer of 80 bytes, of which room are lent.
-fn show_row(n: usize, list: &[usize], room: usize)
-    requires { ⌜ room ≤ 80 ⌝ }
-{
+// The gaps of a line.
+fn gaps_in(line: &[u8]) -> [usize; 80] {
+    let mut list = [0usize; 80];
+    let mut k: usize = 0;
+    while k < 80 {
+        list[k] = cases::number(line, 9 + k);
+        k += 1;
+    }
+    list
+}
+
+// The row of a gap list, with a buffer of 80 bytes, of which some are lent.
+fn show_row(line: &[u8]) {
+    let n = cases::number(line, 2);
+    let room = cases::number_to(line, 5, 80);
+    let count = cases::number_to(line, 7, 80);
+    let list = gaps_in(line);
     let mut out = [FRESH; 80];
-    let answer = gaps::row_of_gaps(n, list, &mut out[..room]);
-    test_rows::print_named(b"row of ", n);
-    test_rows::print_named(b" stations and ", list.len());
-    io::write_all(1, b" gaps");
-    print_gaps(list.len(), list);
-    test_rows::print_named(b" buffer ", room);
-    io::write_all(1, b": ");
+    let answer = gaps::row_of_gaps(n, &list[..count], &mut out[..room]);
+    test_rows::print_filled(b"row of # stations and # gaps", &[n, count]);
+    print_gaps(count, &list);
+    test_rows::print_filled(b" buffer #: ", &[room]);
     print_written(answer, n, &out);
 }
 
-pub fn show_rows() {
-    let most: usize = test_rows::MOST;
-    show_row(8, &[2, 2, 1], 80);
-    show_row(5, &[], 80);
-    show_row(1, &[0], 1);
-    show_row(64, &[0; 64], 64);
-    show_row(64, &[63], 64);
-    show_row(0, &[], 80);
-    show_row(65, &[64], 80);
-    show_row(0, &[2, 2, 2], 0);
-    show_row(2, &[2, 2, 2], 0);
-    show_row(64, &[0; 65], 0);
-    show_row(8, &[2, 2, 2], 80);
-    show_row(8, &[2, 2, 2], 0);
-    show_row(8, &[2, 2], 80);
-    show_row(8, &[most], 80);
-    show_row(8, &[most, 7], 80);
-    show_row(8, &[most, most, 7], 80);
-    show_row(8, &[2, 2, 1], 7);
-    show_row(5, &[], 4);
+fn show(line: &[u8]) {
+    if cases::first_byte(line) == b'r' {
+        return show_row(line);
+    }
+    show_list(line);
 }
 
-pub fn show_lists() {
-    show_list(b"00100101", 80);
-    show_list(b"00000", 80);
-    show_list(b"00000", 0);
-    show_list(b"1", 1);
-    show_list(
-        b"1111111111111111111111111111111111111111111111111111111111111111",
-        64,
+fn show_lines(text: &[u8]) {
+    let lines = test_rows::count(text, b'\n');
+    let mut i: usize = 0;
+    while i < lines {
+        show(cases::piece(text, b'\n', i));
+        i += 1;
+    }
+}
+
+pub fn show_all() {
+    show_lines(
+        b"row of 8 stations buffer 80 and 3 gaps 2 2 1\n\
+          row of 5 stations buffer 80 and 0 gaps\n\
+          row of 1 stations buffer 1 and 1 gaps 0\n\
+          row of 64 stations buffer 64 and 64 gaps 0 0 0 0 0 0 0 0 0 0 0 0 0 0 0 0 0 0 0 0 0 0 0 0 0 0 0 0 0 0 0 0 \
+            0 0 0 0 0 0 0 0 0 0 0 0 0 0 0 0 0 0 0 0 0 0 0 0 0 0 0 0 0 0 0 0\n\
+          row of 64 stations buffer 64 and 1 gaps 63\n\
+          row of 0 stations buffer 80 and 0 gaps\n\
+          row of 65 stations buffer 80 and 1 gaps 64\n\
+          row of 0 stations buffer 0 and 3 gaps 2 2 2\n\
+          row of 2 stations buffer 0 and 3 gaps 2 2 2\n\
+          row of 64 stations buffer 0 and 65 gaps 0 0 0 0 0 0 0 0 0 0 0 0 0 0 0 0 0 0 0 0 0 0 0 0 0 0 0 0 0 0 0 0 \
+            0 0 0 0 0 0 0 0 0 0 0 0 0 0 0 0 0 0 0 0 0 0 0 0 0 0 0 0 0 0 0 0 0\n\
+          row of 8 stations buffer 80 and 3 gaps 2 2 2\n\
+          row of 8 stations buffer 0 and 3 gaps 2 2 2\n\
+          row of 8 stations buffer 80 and 2 gaps 2 2\n\
+          row of 8 stations buffer 80 and 1 gaps most\n\
+          row of 8 stations buffer 80 and 2 gaps most 7\n\
+          row of 8 stations buffer 80 and 3 gaps most most 7\n\
+          row of 8 stations buffer 7 and 3 gaps 2 2 1\n\
+          row of 5 stations buffer 4 and 0 gaps\n\
+          gap list of 8 stations 00100101 buffer 80\n\
+          gap list of 5 stations 00000 buffer 80\n\
+          gap list of 5 stations 00000 buffer 0\n\
+          gap list of 1 stations 1 buffer 1\n\
+          gap list of 64 stations 1111111111111111111111111111111111111111111111111111111111111111 buffer 64\n\
+          gap list of 0 stations  buffer 80\n\
+          gap list of 65 stations 20000000000000000000000000000000000000000000000000000000000000010 buffer 0\n\
+          gap list of 4 stations 0120 buffer 0\n\
+          gap list of 2 stations 10 buffer 80\n\
+          gap list of 2 stations 10 buffer 0\n\
+          gap list of 8 stations 00100101 buffer 2\n",
     );
-    show_list(b"", 80);
-    show_list(
-        b"20000000000000000000000000000000000000000000000000000000000000010",
-        0,
-    );
-    show_list(b"0120", 0);
-    show_list(b"10", 80);
-    show_list(b"10", 0);
-    show_list(b"00100101", 2);
 }

@@ -3,7 +3,6 @@ mod all_rows;
 mod lists;
 
 fn main() {
-    lists::show_rows();
-    lists::show_lists();
+    lists::show_all();
     all_rows::compare_all();
 }

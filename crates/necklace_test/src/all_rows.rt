@@ -2,15 +2,10 @@
 use necklace::ClassAnswer;
 use necklace::KeyAnswer;
 use test_rows::FRESH;
-ghost use Prim.Native.Nat.{_<_, _≤_};
-ghost use Rattle.refusal.specs.Verdicts.{mostStations};
+use test_rows::cases;
 
 // The smallest turn that is least.
-fn first_least(row: &[u8; refusal::MOST_STATIONS], n: usize) -> usize
-    requires { ⌜ 0 < n ⌝ }
-    requires { ⌜ n ≤ mostStations ⌝ }
-    ensures { λ r. ⌜ r ≤ mostStations ⌝ }
-{
+fn first_least(row: &[u8; refusal::MOST_STATIONS], n: usize) -> usize {
     let mut j: usize = 0;
     while j < n {
         if test_rows::is_least(row, n, j) {
@@ -22,13 +17,10 @@ fn first_least(row: &[u8; refusal::MOST_STATIONS], n: usize) -> usize
 }
 
 // The smallest turn from 1 that gives the row back.
-fn first_same(row: &[u8; refusal::MOST_STATIONS], n: usize) -> usize
-    requires { ⌜ 0 < n ⌝ }
-    requires { ⌜ n ≤ mostStations ⌝ }
-{
+fn first_same(row: &[u8; refusal::MOST_STATIONS], n: usize) -> usize {
     let mut p: usize = 1;
     while p < n {
-        if test_rows::turn_order(row, n, p, 0) == 1 {
+        if test_rows::order(row, p, row, 0, n) == 1 {
             return p;
         }
         p += 1;
@@ -36,95 +28,53 @@ fn first_same(row: &[u8; refusal::MOST_STATIONS], n: usize) -> usize
     n
 }
 
-fn key_agrees(row: [u8; refusal::MOST_STATIONS], n: usize) -> bool
-    requires { ⌜ 0 < n ⌝ }
-    requires { ⌜ n ≤ mostStations ⌝ }
-{
+fn key_agrees(row: &[u8; refusal::MOST_STATIONS], n: usize) -> bool {
     let mut out = [FRESH; refusal::MOST_STATIONS];
-    let answer = necklace::key(&row[..n], &mut out);
-    let least = first_least(&row, n);
-    if !test_rows::is_turn(&out, &row, n, least) {
+    let answer = necklace::key(cases::part(row, 0, n), &mut out);
+    let KeyAnswer::Found { rotation, period } = answer else {
+        return false;
+    };
+    if rotation != first_least(row, n) {
         return false;
     }
-    match answer {
-        KeyAnswer::Found { rotation, period } => {
-            if rotation == least {
-                period == first_same(&row, n)
-            } else {
-                false
-            }
-        }
-        KeyAnswer::Refused(_) => false,
+    if period != first_same(row, n) {
+        return false;
     }
+    test_rows::order(&out, 0, row, rotation, n) == 1
 }
 
-fn class_agrees(row: [u8; refusal::MOST_STATIONS], n: usize) -> bool
-    requires { ⌜ 0 < n ⌝ }
-    requires { ⌜ n ≤ mostStations ⌝ }
-{
-    let shelved = test_rows::is_least(&row, n, 0);
-    match necklace::class(&row[..n]) {
+// 0 not shelved, 1 shelved, 3 also without symmetry.
+fn class_number(row: &[u8; refusal::MOST_STATIONS], n: usize) -> usize {
+    if !test_rows::is_least(row, n, 0) {
+        return 0;
+    }
+    if first_same(row, n) != n {
+        return 1;
+    }
+    3
+}
+
+fn class_agrees(row: &[u8; refusal::MOST_STATIONS], n: usize) -> bool {
+    match necklace::class(cases::part(row, 0, n)) {
         ClassAnswer::Of { necklace, lyndon } => {
-            if necklace != shelved {
-                return false;
-            }
-            if shelved {
-                lyndon == (first_same(&row, n) == n)
-            } else {
-                !lyndon
-            }
+            test_rows::one_if(necklace) + 2 * test_rows::one_if(lyndon) == class_number(row, n)
         }
         ClassAnswer::Refused(_) => false,
     }
 }
 
-// What is compared.
-enum Compared {
-    Key,
-    Class,
-}
-
-fn agrees(what: Compared, row: [u8; refusal::MOST_STATIONS], n: usize) -> bool
-    requires { ⌜ 0 < n ⌝ }
-    requires { ⌜ n ≤ mostStations ⌝ }
-{
-    match what {
-        Compared::Key => key_agrees(row, n),
-        Compared::Class => class_agrees(row, n),
-    }
-}
-
-// How many rows of n stations agree.
-fn count_agreeing(what: Compared, n: usize) -> usize
-    requires { ⌜ 0 < n ⌝ }
-    requires { ⌜ n ≤ mostStations ⌝ }
-    ensures { λ r. ⌜ r ≤ 1024 ⌝ }
-{
-    let rows = test_rows::count_rows(n);
-    let mut agreed: usize = 0;
-    let mut number: usize = 0;
-    while number < rows {
+// The rows are numbered: a binary 1 and then the symbols.
+pub fn compare_all() {
+    let mut keys: usize = 0;
+    let mut classes: usize = 0;
+    let mut number: usize = 2;
+    while number < 2048 {
+        let n = test_rows::stations(number);
         let row = test_rows::row_of_number(n, number);
-        agreed += test_rows::one_if(agrees(what, row, n));
+        keys += test_rows::one_if(key_agrees(&row, n));
+        classes += test_rows::one_if(class_agrees(&row, n));
         number += 1;
     }
-    agreed
-}
-
-fn compare(name: &[u8], what: Compared) {
-    let mut compared: usize = 0;
-    let mut agreed: usize = 0;
-    let mut n: usize = 1;
-    while n <= 10 {
-        compared += test_rows::count_rows(n);
-        agreed += count_agreeing(what, n);
-        n += 1;
-    }
-    io::write_all(1, name);
-    test_rows::print_counts(compared, agreed);
-}
-
-pub fn compare_all() {
-    compare(b"key ", Compared::Key);
-    compare(b"class ", Compared::Class);
+    test_rows::print_counts(b"key", 2046, keys);
+    test_rows::print_counts(b"class", 2046, classes);
 }

@@ -1,39 +1,35 @@
-// Key and class of single rows: specimens, and the refusals in their order.
+// Key and class of single rows: specimens, and the refusals in their order. A case is the line that is printed, up to the answer.
 use necklace::ClassAnswer;
 use necklace::KeyAnswer;
 use test_rows::FRESH;
-ghost use Prim.Native.Nat.{_≤_};
-ghost use lib.ListN.{length};
+use test_rows::cases;
 
 fn print_key(answer: KeyAnswer, n: usize, out: &[u8; 80]) {
     match answer {
         KeyAnswer::Found { rotation, period } => {
             test_rows::print_row(n, out);
-            test_rows::print_named(b" turn ", rotation);
-            test_rows::print_named(b" period ", period);
+            test_rows::print_filled(b" turn # period #", &[rotation, period]);
         }
         KeyAnswer::Refused(r) => test_rows::print_refusal(r),
     }
     test_rows::print_as_before(test_rows::count_fresh(out));
 }
 
-// The key of a row, with a buffer of 80 bytes, of which room are lent.
-fn show_key(digits: &[u8], room: usize)
-    requires { ⌜ length (now digits) ≤ 80 ⌝ }
-    requires { ⌜ room ≤ 80 ⌝ }
-{
-    let n = digits.len();
-    let row = test_rows::symbols(digits);
+// The key of a row, with a buffer of 80 bytes, of which some are lent.
+fn show_key(line: &[u8]) {
+    let digits = cases::word(line, 4);
+    let room = cases::number_to(line, 6, 80);
+    let row = cases::symbols(digits);
     let mut out = [FRESH; 80];
-    let answer = necklace::key(&row[..n], &mut out[..room]);
-    test_rows::print_question(b"key", digits);
-    test_rows::print_named(b" buffer ", room);
-    io::write_all(1, b": ");
-    print_key(answer, n, &out);
+    let answer = necklace::key(cases::part(&row, 0, digits.len()), &mut out[..room]);
+    print_key(answer, digits.len(), &out);
 }
 
-fn print_class(answer: ClassAnswer) {
-    match answer {
+// Whether a row is shelved, and without symmetry.
+fn show_class(line: &[u8]) {
+    let digits = cases::word(line, 4);
+    let row = cases::symbols(digits);
+    match necklace::class(cases::part(&row, 0, digits.len())) {
         ClassAnswer::Of { necklace, lyndon } => {
             io::write_all(1, b"shelved ");
             test_rows::print_truth(necklace);
@@ -42,59 +38,56 @@ fn print_class(answer: ClassAnswer) {
         }
         ClassAnswer::Refused(r) => test_rows::print_refusal(r),
     }
-}
-
-fn show_class(digits: &[u8])
-    requires { ⌜ length (now digits) ≤ 80 ⌝ }
-{
-    let n = digits.len();
-    let row = test_rows::symbols(digits);
-    let answer = necklace::class(&row[..n]);
-    test_rows::print_question(b"class", digits);
-    io::write_all(1, b": ");
-    print_class(answer);
     io::write_all(1, b"\n");
 }
 
-pub fn show_keys() {
-    show_key(b"011000", 80);
-    show_key(b"101010", 80);
-    show_key(b"0", 80);
-    show_key(b"1", 80);
-    show_key(b"10", 2);
-    show_key(b"0110", 4);
-    show_key(b"1011010110", 10);
-    show_key(
-        b"1010101010101010101010101010101010101010101010101010101010101010",
-        64,
-    );
-    show_key(
-        b"1101001011010010000001001000000000000000110100101101001000000100",
-        65,
-    );
-    show_key(b"", 0);
-    show_key(
-        b"01010101010101010101010101010101010101010101010101010101010101012",
-        0,
-    );
-    show_key(b"0121", 0);
-    show_key(b"2012", 80);
-    show_key(b"011000", 5);
-    show_key(b"011000", 0);
+fn show(line: &[u8]) {
+    io::write_all(1, line);
+    io::write_all(1, b": ");
+    if cases::first_byte(line) == b'k' {
+        return show_key(line);
+    }
+    show_class(line);
 }
 
-pub fn show_classes() {
-    show_class(b"0011");
-    show_class(b"0101");
-    show_class(b"0110");
-    show_class(b"0");
-    show_class(b"1");
-    show_class(b"10");
-    show_class(b"000");
-    show_class(b"0000000000000000000000000000000100000000000000000000000000000001");
-    show_class(b"0000000000000000000000000000000000000000000000000000000000000001");
-    show_class(b"");
-    show_class(b"00000000000000000000000000000000000000000000000000000000000000002");
-    show_class(b"0120");
-    show_class(b"3");
+fn show_lines(text: &[u8]) {
+    let lines = test_rows::count(text, b'\n');
+    let mut i: usize = 0;
+    while i < lines {
+        show(cases::piece(text, b'\n', i));
+        i += 1;
+    }
+}
+
+pub fn show_all() {
+    show_lines(
+        b"key of 6 stations 011000 buffer 80\n\
+          key of 6 stations 101010 buffer 80\n\
+          key of 1 stations 0 buffer 80\n\
+          key of 1 stations 1 buffer 80\n\
+          key of 2 stations 10 buffer 2\n\
+          key of 4 stations 0110 buffer 4\n\
+          key of 10 stations 1011010110 buffer 10\n\
+          key of 64 stations 1010101010101010101010101010101010101010101010101010101010101010 buffer 64\n\
+          key of 64 stations 1101001011010010000001001000000000000000110100101101001000000100 buffer 65\n\
+          key of 0 stations  buffer 0\n\
+          key of 65 stations 01010101010101010101010101010101010101010101010101010101010101012 buffer 0\n\
+          key of 4 stations 0121 buffer 0\n\
+          key of 4 stations 2012 buffer 80\n\
+          key of 6 stations 011000 buffer 5\n\
+          key of 6 stations 011000 buffer 0\n\
+          class of 4 stations 0011\n\
+          class of 4 stations 0101\n\
+          class of 4 stations 0110\n\
+          class of 1 stations 0\n\
+          class of 1 stations 1\n\
+          class of 2 stations 10\n\
+          class of 3 stations 000\n\
+          class of 64 stations 0000000000000000000000000000000100000000000000000000000000000001\n\
+          class of 64 stations 0000000000000000000000000000000000000000000000000000000000000001\n\
+          class of 0 stations \n\
+          class of 65 stations 00000000000000000000000000000000000000000000000000000000000000002\n\
+          class of 4 stations 0120\n\
+          class of 1 stations 3\n",
+    );
 }

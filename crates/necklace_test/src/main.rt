@@ -3,7 +3,6 @@ mod all_rows;
 mod keys;
 
 fn main() {
-    keys::show_keys();
-    keys::show_classes();
+    keys::show_all();
     all_rows::compare_all();
 }

@@ -1,5 +1,4 @@
--- The prefix question, and what its inner functions compute.
+-- The prefix question, and what its inner functions rely on.
 pub mod Question
-pub mod InnerSearch
 pub mod InnerCarried
 pub mod Claims

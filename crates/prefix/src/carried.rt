@@ -1,7 +1,7 @@
 // What is known of the symbols that a question was about, carried to the next question in place of a new scan.
-use crate::inner::goes_on;
-use crate::inner::ruled_out;
-use crate::inner::search_from;
+use extension::goes_on;
+use extension::ruled_out;
+use extension::search_from;
 ghost use mathlib.Core.Path.{_≡_};
 ghost use mathlib.Core.Bool.{true};
 ghost use Prim.Native.Nat.{_-_, _≤_, _<_};
@@ -151,7 +151,7 @@ impl Known {
     }
 
     // The question: whether some necklace of n symbols and density d begins with the first t symbols of a row, which are known.
-    pub fn begins(self, n: usize, d: usize, row: [u8; refusal::MOST_STATIONS], t: usize) -> bool
+    pub fn ask(self, n: usize, d: usize, row: [u8; refusal::MOST_STATIONS], t: usize) -> bool
         requires { ⌜ (0 < n) × (n ≤ mostStations) × (d ≤ n) × (t ≤ n) × Within 2 row × Knows (take t row) self ⌝ }
         ensures { λ r. ⌜ r ≡ begins n d (take t row) ⌝ }
     {
@@ -161,17 +161,14 @@ impl Known {
         if t == 0 {
             return true;
         }
-        if p == 0 {
-            return false;
-        }
-        if ruled_out(n, d, &row[..t], h, z) {
+        if p == 0 || ruled_out(n, d, &row[..t], h, z) {
             return false;
         }
         search_from(row, t, n, d, p, h, z)
     }
 
     // The same of a, which ends with a 1, where all before that 1 is known and begins such a necklace: no search is needed.
-    pub fn begins_with_one(self, n: usize, d: usize, a: &[u8]) -> bool
+    pub fn ask_with_one(self, n: usize, d: usize, a: &[u8]) -> bool
         requires { ⌜ (n ≤ mostStations) × (d ≤ n) × (1 < length (now a)) × (length (now a) ≤ n) × Within 2 (now a) × (getD (now a) (length (now a) - 1) 0 ≡ 1) × Knows (take (length (now a) - 1) (now a)) self × (begins n d (take (length (now a) - 1) (now a)) ≡ true) ⌝ }
         ensures { λ r. ⌜ r ≡ begins n d (now (a .entry)) ⌝ }
     {
@@ -191,10 +188,7 @@ impl Known {
         ensures { λ r. ⌜ r ≡ isNecklaceOf d (now (a .entry)) ⌝ }
     {
         let p = self.period;
-        if self.ones != d {
-            return false;
-        }
-        words::inner::scanned_period(a, p) != 0
+        self.ones == d && words::inner::scanned_period(a, p) != 0
     }
 
     // Whether a, which is known, is of a kind, if it is a necklace.

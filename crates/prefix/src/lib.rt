@@ -1,6 +1,5 @@
 // The prefix question: does some necklace of length n and density d begin with a given prefix?
 pub mod carried;
-pub mod inner;
 
 ghost use mathlib.Core.Path.{_≡_};
 ghost use Rattle.refusal.specs.Outcomes.{decide};
@@ -34,6 +33,6 @@ pub fn ask(n: usize, d: usize, prefix: &[u8]) -> PrefixAnswer
     }
     let row = density::rows::padded(prefix);
     let prefixes = carried::prefixes_of(prefix);
-    let yes = Known::read(&prefixes, prefix).begins(n, d, row, prefix.len());
+    let yes = Known::read(&prefixes, prefix).ask(n, d, row, prefix.len());
     PrefixAnswer::Answered(yes)
 }

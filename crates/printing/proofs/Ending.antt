@@ -6,8 +6,8 @@ use Prim.Native.Nat.{ℕ, _+_, _<_}
 use native.Mathlib.Omega.{arith}
 use lib.Dec.{leb, ltb}
 use lib.ListN.{length, length-append}
-use Rattle.drawer_text.proofs.Filling.{end-length, refusal-length, ring-length}
-use Rattle.drawer_text.specs.Lines.{ringLine}
+use Rattle.drawer_lines.proofs.Filling.{end-length, refusal-length, ring-length}
+use Rattle.drawer_lines.specs.Lines.{ringLine}
 use Rattle.listing.specs.Listing.{Line, Listing, entry, none, over, ring}
 use Rattle.printing.specs.Left.{highest64, left, leftAt, lineLeft, linesLeft, listingOf, ringsLeft, stopped}
 use Rattle.printing.specs.InnerNextLine.{answerNext, isDone, nextAt, nextOf, ringNext}

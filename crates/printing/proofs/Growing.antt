@@ -5,7 +5,7 @@ use Prim.Native.Nat.{ℕ, _+_, _-_, _<_, _≤_}
 use native.Mathlib.Omega.{arith}
 use lib.ListN.{drop, length, length-append, take}
 use lib.Seq.{drop-at, drop-drop, length-take-le, take-at}
-use Rattle.drawer_text.specs.Lines.{longestLine}
+use Rattle.drawer_lines.specs.Lines.{longestLine}
 use Rattle.printing.proofs.NextLine.{next-left, next-long}
 use Rattle.printing.specs.Left.{left}
 use Rattle.printing.specs.InnerNextLine.{nextOf}

@@ -14,7 +14,7 @@ pub mod Numbers
 pub mod Starting
 -- what is read of an input
 pub mod Reading
--- pieces in buffers of any lengths, one behind the other
-pub mod Pieces
 -- document 01's example
 pub mod Examples
+-- what is claimed in specs/
+pub mod Claims

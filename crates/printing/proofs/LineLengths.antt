@@ -6,8 +6,8 @@ use Prim.Native.Nat.{ℕ, _≤_}
 use native.Mathlib.Omega.{arith}
 use lib.ListN.{length}
 use borrow.Author.Tests.{le-leb}
-use Rattle.drawer_text.proofs.Filling.{end-length, ring-length}
-use Rattle.drawer_text.specs.Lines.{countOf, endLine, longestLine, ringLine, written}
+use Rattle.drawer_lines.proofs.Filling.{end-length, ring-length}
+use Rattle.drawer_lines.specs.Lines.{countOf, endLine, longestLine, ringLine, written}
 use Rattle.words.specs.Rotation.{necklacePeriod}
 use Rattle.printing.specs.Left.{highest64}
 use Rattle.printing.specs.InnerNextLine.{Next, Puts, filledBy}

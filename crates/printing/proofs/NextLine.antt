@@ -8,7 +8,7 @@ use lib.Dec.{leb, ltb}
 use lib.ListN.{length}
 use lib.Seq.{length-take-le}
 use borrow.Author.Tests.{le-ltb, leb-false, leb-true, lt-ltb}
-use Rattle.drawer_text.specs.Lines.{endLine, refusalText, ringLine}
+use Rattle.drawer_lines.specs.Lines.{endLine, refusalText, ringLine}
 use Rattle.listing.specs.Listing.{Listing, Said, entry, listingStep, over, refused, says, told}
 use Rattle.printing.specs.Left.{highest64, left, leftAt, lineLeft, linesLeft, listingOf, ringsLeft, stopped}
 use Rattle.printing.specs.InnerNextLine.{answerNext, nextAt, nextOf, ringNext, walkNext}

@@ -8,12 +8,12 @@ use lib.Dec.{eqb, leb}
 use lib.ListN.{drop, length, length-drop, length-map, take}
 use lib.Seq.{length-take-le, take-all, take-at}
 use borrow.Author.Tests.{le-leb, leb-false, leb-true}
-use Rattle.drawer_text.proofs.Inputs.{over-long}
-use Rattle.drawer_text.specs.Input.{Asked, inputOf, limitFilled, mostBytes, names, readDrawer, requestFor, requestOutcome, RequestValues, valuesAt}
-use Rattle.drawer_text.specs.Lines.{refusalText}
-use Rattle.drawer_text.specs.declared.Request.the-variants.{Drawer}
-use Rattle.drawer_text.specs.declared.Values.{Values}
-use Rattle.drawer_text.specs.declared.Values.the-variants.{Line, NoLine}
+use Rattle.drawer_input.proofs.Inputs.{over-long}
+use Rattle.drawer_input.specs.Input.{Asked, inputOf, limitFilled, mostBytes, names, readDrawer, requestFor, requestOutcome, RequestValues, valuesAt}
+use Rattle.drawer_lines.specs.Lines.{refusalText}
+use Rattle.drawer_input.specs.declared.Request.the-variants.{Drawer}
+use Rattle.drawer_input.specs.declared.Values.{Values}
+use Rattle.drawer_input.specs.declared.Values.the-variants.{Line, NoLine}
 use Rattle.printing.specs.Text.{askedText, inputText, printed}
 use Rattle.refusal.specs.Outcomes.{Outcome, given, refused}
 use Rattle.refusal.specs.declared.Refusal.{Refusal}

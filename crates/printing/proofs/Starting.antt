@@ -9,7 +9,7 @@ use lib.ListN.{length}
 use borrow.Author.Tests.{le-leb, lt-ltb, ltb-false}
 use Rattle.density.proofs.Binary.{binary-within}
 use Rattle.density.specs.Necklaces.{isKind, ofKind}
-use Rattle.drawer_text.specs.Lines.{header, refusalText}
+use Rattle.drawer_lines.specs.Lines.{header, refusalText}
 use Rattle.listing.proofs.Strikes.{Closed, last, line, listing-closed}
 use Rattle.listing.proofs.TrialBounds.{prices}
 use Rattle.listing.specs.Listing.{Listing, listing}

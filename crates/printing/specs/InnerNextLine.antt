@@ -5,7 +5,7 @@ use mathlib.Core.Path.{_≡_}
 use Prim.Native.Nat.{ℕ, _+_, _≤_}
 use lib.Dec.{ltb}
 use lib.ListN.{length}
-use Rattle.drawer_text.specs.Lines.{endLine, header, longestLine, refusalText, ringLine}
+use Rattle.drawer_lines.specs.Lines.{endLine, header, longestLine, refusalText, ringLine}
 use Rattle.printing.specs.Left.{highest64, stopped}
 use Rattle.printing.specs.declared.Due.{Due}
 use Rattle.printing.specs.declared.Due.the-variants.{Refused, Header, Rings, Done}

@@ -3,7 +3,7 @@ use mathlib.Core.Bool.{cond}
 use mathlib.Core.List.{List, [], _++_}
 use Prim.Native.Nat.{ℕ, _+_}
 use lib.Dec.{leb, ltb}
-use Rattle.drawer_text.specs.Lines.{endLine, header, refusalText, ringLine}
+use Rattle.drawer_lines.specs.Lines.{endLine, header, refusalText, ringLine}
 use Rattle.refusal.specs.declared.Refusal.the-variants.{Unfit}
 use Rattle.printing.specs.declared.Due.{Due}
 use Rattle.printing.specs.declared.Due.the-variants.{Refused, Header, Rings, Done}

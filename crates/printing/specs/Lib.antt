@@ -3,3 +3,4 @@ pub mod Text
 pub mod Left
 pub mod Pieces
 pub mod InnerNextLine
+pub mod Claims

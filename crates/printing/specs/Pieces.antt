@@ -4,7 +4,7 @@ use mathlib.Core.List.{List, [], _++_}
 use mathlib.Core.Path.{_≡_}
 use Prim.Native.Nat.{ℕ, _+_, _<_, _≤_}
 use lib.ListN.{drop, length, take}
-use Rattle.drawer_text.specs.Lines.{longestLine}
+use Rattle.drawer_lines.specs.Lines.{longestLine}
 use Rattle.printing.specs.Left.{left}
 use Rattle.printing.specs.declared.Filled.{Filled}
 use Rattle.printing.specs.declared.Printing.{Printing}

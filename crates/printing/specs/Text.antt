@@ -2,8 +2,8 @@
 use mathlib.Core.List.{List, [], _++_}
 use Prim.Native.Nat.{ℕ, _+_}
 use Rattle.density.specs.Necklaces.{ofKind}
-use Rattle.drawer_text.specs.Input.{Asked, readDrawer}
-use Rattle.drawer_text.specs.Lines.{endLine, header, refusalText, ringLine}
+use Rattle.drawer_input.specs.Input.{Asked, readDrawer}
+use Rattle.drawer_lines.specs.Lines.{endLine, header, refusalText, ringLine}
 use Rattle.refusal.specs.Outcomes.{Outcome, given}
 use Rattle.refusal.specs.Verdicts.{Verdict, accepted, refused}
 use Rattle.listing.specs.Listing.{Listing, entry, listing, none, over, ring}

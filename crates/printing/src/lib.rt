@@ -2,9 +2,9 @@
 mod lines;
 mod opening;
 
-use drawer_text::LONGEST_LINE;
-use drawer_text::MOST_BYTES;
-use drawer_text::Request;
+use drawer_input::MOST_BYTES;
+use drawer_input::Request;
+use drawer_lines::LONGEST_LINE;
 use refusal::Refusal;
 use walk::Walk;
 ghost use mathlib.Core.Path.{_≡_};
@@ -40,7 +40,7 @@ impl Printing {
         ensures { λ r. ⌜ left r ≡ printed (now (text .entry)) ⌝ }
     {
         let mut limit = [0u8; MOST_BYTES];
-        let request = drawer_text::read_drawer(text, &mut limit);
+        let request = drawer_input::read_drawer(text, &mut limit);
         match request {
             Request::Drawer(n, d, kind, size) => opening::start_walk(n, d, kind, size, &limit),
             Request::Refused(r) => opening::start_refusal(r),

@@ -9,22 +9,25 @@ ghost use mathlib.Core.Path.{_≡_};
 ghost use Prim.Native.Nat.{_≤_};
 ghost use lib.Dec.{ltb};
 ghost use lib.ListN.{length};
-ghost use Rattle.drawer_text.specs.Lines.{endLine, header, longestLine, refusalText};
+ghost use Rattle.drawer_lines.specs.Lines.{endLine, header, longestLine, refusalText};
 ghost use Rattle.printing.specs.Left.{highest64};
 ghost use Rattle.printing.specs.InnerNextLine.{GivenRing, Puts, isDone, lastLine, lineThen, nextOf, printing, ringNext, walkNext};
 
+// The highest number of 64 bits.
+const HIGHEST: u64 = 18446744073709551615;
+
 // All that can be allowed: more than the trials of any ring.
-const ALLOWANCE: u64 = 18446744073709551615;
+const ALLOWANCE: u64 = HIGHEST;
 
 // More rings than are in any drawer.
-const MOST_RINGS: u64 = 18446744073709551615;
+const MOST_RINGS: u64 = HIGHEST;
 
 // A refusal's text, and nothing behind it.
 fn put_refusal(r: Refusal, number: u64, walk: Walk, out: &mut [u8]) -> Filled
     requires { ⌜ longestLine ≤ length (now out) ⌝ }
     ensures { λ f. ⌜ Puts (lastLine (refusalText r) number walk) (now (out .entry)) (now (out .exit)) f ⌝ }
 {
-    let used = drawer_text::write_refusal(r, out);
+    let used = drawer_lines::write_refusal(r, out);
     let state = Printing {
         walk,
         number,
@@ -42,7 +45,7 @@ fn put_header(number: u64, walk: Walk, out: &mut [u8]) -> Filled
     requires { ⌜ longestLine ≤ length (now out) ⌝ }
     ensures { λ f. ⌜ Puts (lineThen header (printing walk number Due.Rings)) (now (out .entry)) (now (out .exit)) f ⌝ }
 {
-    let used = drawer_text::write_header(out);
+    let used = drawer_lines::write_header(out);
     let state = Printing {
         walk,
         number,
@@ -66,7 +69,7 @@ fn put_ring(number: u64, walk: Walk, trials: u64, out: &mut [u8]) -> Filled
     let n = walk.n;
     let row = walk.row;
     let period = words::inner::necklace_period(&row[..n]);
-    let used = drawer_text::write_ring(number + 1, &row[..n], period as u64, trials, out);
+    let used = drawer_lines::write_ring(number + 1, &row[..n], period as u64, trials, out);
     let state = Printing {
         walk,
         number: number + 1,
@@ -84,7 +87,7 @@ fn put_end(number: u64, walk: Walk, trials: u64, out: &mut [u8]) -> Filled
     requires { ⌜ longestLine ≤ length (now out) ⌝ }
     ensures { λ f. ⌜ Puts (lastLine (endLine trials) number walk) (now (out .entry)) (now (out .exit)) f ⌝ }
 {
-    let used = drawer_text::write_end(trials, out);
+    let used = drawer_lines::write_end(trials, out);
     let state = Printing {
         walk,
         number,

@@ -3,14 +3,13 @@ use crate::Due;
 use crate::Printing;
 use refusal::Refusal;
 use walk::OpenAnswer;
-use walk::Standing;
 use walk::Walk;
 ghost use mathlib.Core.Path.{_≡_};
 ghost use mathlib.Core.Bool.{cond};
 ghost use Prim.Native.Nat.{_≤_};
 ghost use lib.Dec.{ltb};
 ghost use lib.ListN.{length, take};
-ghost use Rattle.drawer_text.specs.Lines.{refusalText};
+ghost use Rattle.drawer_lines.specs.Lines.{refusalText};
 ghost use Rattle.printing.specs.Text.{askedText};
 ghost use Rattle.printing.specs.Left.{left};
 
@@ -28,16 +27,8 @@ fn kind_byte(kind: usize) -> u8
 pub fn start_refusal(r: Refusal) -> Printing
     ensures { λ p. ⌜ left p ≡ refusalText r ⌝ }
 {
-    let row = [0u8; refusal::MOST_STATIONS];
-    let walk = Walk {
-        n: 1,
-        d: 0,
-        kind: 1,
-        row,
-        at: Standing::Ended,
-    };
     Printing {
-        walk,
+        walk: Walk::refused(),
         number: 0,
         due: Due::Refused(r),
     }

@@ -1,12 +1,12 @@
 // The drawer program's text, as it is handed out in buffers of many lengths, against plain printing.
 mod drawers;
-mod faults;
 mod pieces;
 mod plain;
+mod sets;
 mod states;
 
-use faults::Fault;
 use printing::Printing;
+use sets::Set;
 
 // The text of an input, printed in buffers of 128 bytes.
 fn print_pieces(input: &[u8]) {
@@ -15,10 +15,7 @@ fn print_pieces(input: &[u8]) {
     while pieces < 1000 {
         let mut out = [0u8; 128];
         let filled = state.fill(&mut out);
-        let used = filled.used;
-        if used <= 128 {
-            io::write_all(1, &out[..used]);
-        }
+        test_texts::print_front(filled.used, &out);
         if filled.done {
             return;
         }
@@ -27,43 +24,36 @@ fn print_pieces(input: &[u8]) {
     }
 }
 
-// The text of a drawer at ones, or of its refusal.
+// The text of a drawer at ones.
 fn show(n: usize, d: usize, kind: usize) {
-    if refusal::MOST_STATIONS < n {
-        return;
-    }
     let mut input = [0u8; 8192];
-    let size = drawers::append_input(
-        &mut input,
-        drawers::drawer(n, d, kind, 18446744073709551615),
-    );
+    let size = drawers::append_input(&mut input, drawers::drawer(n, d, kind, test_rows::MOST));
     print_pieces(&input[..size]);
 }
 
-fn print_faults() {
-    pieces::print_tally(b"beginnings", faults::compare_faults(Fault::Cut, 40));
-    pieces::print_tally(b"other names", faults::compare_faults(Fault::Name, 26));
-    pieces::print_tally(b"bytes behind", faults::compare_faults(Fault::Behind, 240));
-    pieces::print_tally(
-        b"lengths of the limit",
-        faults::compare_faults(Fault::Limit, 300),
-    );
+fn show_faults() {
+    sets::show(b"beginnings", Set::Cut, 40);
+    sets::show(b"other names", Set::Name, 26);
+    sets::show(b"bytes behind", Set::Behind, 240);
+    sets::show(b"lengths of the limit", Set::Limit, 300);
+    sets::show(b"openings", Set::Openings, 8640);
+    sets::show(b"other states", Set::States, 4);
 }
 
-fn print_drawers() {
+fn show_drawers() {
     let mut n: usize = 1;
     while n <= 14 {
         test_rows::print_named(b"stations ", n);
-        pieces::print_tally(b"", drawers::compare_drawers(n));
+        sets::show(b"", Set::Drawers(n), drawers::count(n));
         n += 1;
     }
 }
 
-fn print_rooms() {
+fn show_rooms() {
     io::write_all(1, b"buffers of 0 to 4200 bytes\n");
-    pieces::print_tally(b"(6,3) kind 3", drawers::compare_rooms(6, 3, 3));
-    pieces::print_tally(b"(14,7) kind 1", drawers::compare_rooms(14, 7, 1));
-    pieces::print_tally(b"(14,7) kind 2", drawers::compare_rooms(14, 7, 2));
+    sets::show(b"(6,3) kind 3", Set::One(6, 3, 3), 1);
+    sets::show(b"(14,7) kind 1", Set::One(14, 7, 1), 1);
+    sets::show(b"(14,7) kind 2", Set::One(14, 7, 2), 1);
 }
 
 fn main() {
@@ -71,9 +61,7 @@ fn main() {
     show(6, 3, 2);
     show(64, 1, 2);
     show(64, 64, 1);
-    print_faults();
-    pieces::print_tally(b"openings", drawers::compare_openings());
-    pieces::print_tally(b"other states", states::compare_states());
-    print_drawers();
-    print_rooms();
+    show_faults();
+    show_drawers();
+    show_rooms();
 }

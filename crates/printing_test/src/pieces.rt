@@ -1,35 +1,58 @@
 // Pieces of a text in lent buffers, compared byte by byte with the text that is due.
-use drawer_text::LONGEST_LINE;
+use drawer_lines::LONGEST_LINE;
 use printing::Printing;
 use test_rows::FRESH;
 ghost use Prim.Native.Nat.{_≤_};
+ghost use lib.ListN.{length};
 
-// Whether a buffer holds the next bytes of a text, and is as it was behind them.
-fn holds(out: &[u8; 4300], used: usize, text: &[u8], at: usize) -> bool {
-    let mut i: usize = 0;
-    while i < 4300 {
-        if i < used {
-            if text.len() <= at {
-                return false;
-            }
-            if text.len() - at <= i {
-                return false;
-            }
-            if out[i] != text[at + i] {
-                return false;
-            }
-        } else {
-            if out[i] != FRESH {
-                return false;
-            }
-        }
-        i += 1;
+// The bytes of a buffer, of which up to 4200 are lent.
+const MOST_ROOM: usize = 4300;
+
+// Where the text that is due goes on behind a piece, if the buffer holds its next bytes and is as it was behind them; else past its end.
+fn next_place(out: &[u8; MOST_ROOM], used: usize, due: &[u8], at: usize) -> usize
+    requires { ⌜ at ≤ length (now due) ⌝ }
+{
+    if due.len() - at < used {
+        return due.len() + 1;
     }
-    true
+    let end = at + used;
+    if test_texts::holds(out, used, &due[at..end]) {
+        return end;
+    }
+    due.len() + 1
 }
 
-// Whether the pieces in buffers of some length are the text that is due: each holds what follows the last, until less than a longest line's
-// room is left of the buffer, and the one that ends the text is the only one that says so. A buffer shorter than that gets nothing.
+// Whether more is to come behind a piece, where `left` bytes of the text are behind it: it does not say that it ends the text, and goes on
+// until less than a longest line's room is left of the buffer.
+fn goes_on(used: usize, done: bool, left: usize, room: usize) -> bool {
+    if done {
+        return false;
+    }
+    if left == 0 {
+        return false;
+    }
+    if room < LONGEST_LINE {
+        return false;
+    }
+    room - LONGEST_LINE < used
+}
+
+// Whether a piece behind which no more is to come is as it must be: the last, which alone says that it ends the text, or that of a buffer
+// with too little room for a longest line, which gets nothing.
+fn ends(used: usize, done: bool, left: usize, room: usize) -> bool {
+    if done {
+        return left == 0;
+    }
+    if left == 0 {
+        return false;
+    }
+    if LONGEST_LINE <= room {
+        return false;
+    }
+    used == 0
+}
+
+// Whether the pieces in buffers of some length are the text that is due: each holds what follows the last.
 fn agree(start: Printing, due: &[u8], room: usize) -> bool
     requires { ⌜ room ≤ 4200 ⌝ }
 {
@@ -37,27 +60,17 @@ fn agree(start: Printing, due: &[u8], room: usize) -> bool
     let mut at: usize = 0;
     let mut pieces: usize = 0;
     while pieces < 8192 {
-        let mut out = [FRESH; 4300];
+        let mut out = [FRESH; MOST_ROOM];
         let filled = state.fill(&mut out[..room]);
         let used = filled.used;
-        if !holds(&out, used, due, at) {
+        let done = filled.done;
+        at = next_place(&out, used, due, at);
+        if due.len() < at {
             return false;
         }
-        if due.len() - at < used {
-            return false;
-        }
-        at += used;
-        if filled.done {
-            return at == due.len();
-        }
-        if at == due.len() {
-            return false;
-        }
-        if room < LONGEST_LINE {
-            return used == 0;
-        }
-        if used <= room - LONGEST_LINE {
-            return false;
+        let left = due.len() - at;
+        if !goes_on(used, done, left, room) {
+            return ends(used, done, left, room);
         }
         state = filled.state;
         pieces += 1;
@@ -126,9 +139,8 @@ pub fn compare(start: Printing, due: &[u8], first: usize, last: usize) -> Tally
 
 pub fn print_tally(name: &[u8], tally: Tally) {
     io::write_all(1, name);
-    test_rows::print_named(b" compared ", tally.compared);
-    test_rows::print_named(b" agreed ", tally.agreed);
-    test_rows::print_named(b" bytes ", tally.bytes);
-    test_rows::print_named(b" checks ", tally.checks);
-    io::write_all(1, b"\n");
+    test_rows::print_filled(
+        b" compared # agreed # bytes # checks #\n",
+        &[tally.compared, tally.agreed, tally.bytes, tally.checks],
+    );
 }

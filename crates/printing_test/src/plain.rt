@@ -1,45 +1,21 @@
 // The drawer program's text, printed plainly into a buffer of 8192 bytes: numbers by the kit's digits, rings by a plain listing.
+use test_walks::book::Book;
 ghost use mathlib.Core.Path.{_≡_};
 ghost use Prim.Native.Nat.{_<_, _≤_, _*_};
 ghost use lib.ListN.{length};
 ghost use Rattle.refusal.specs.Verdicts.{mostStations};
 
-// A number, and a byte behind it.
-pub fn append_number(text: &mut [u8], at: usize, n: usize, behind: u8) -> usize
-    requires { ⌜ (at ≤ 8192) × (8192 ≡ length (now text)) ⌝ }
-    ensures { λ r. ⌜ (r ≤ 8192) × (8192 ≡ length (now (text .exit))) ⌝ }
+// The last n binary digits of a number.
+pub fn digits(n: usize, number: usize) -> [u8; refusal::MOST_STATIONS]
+    requires { ⌜ n ≤ mostStations ⌝ }
 {
-    let mut digits = [0u8; 20];
-    let count = io::decimal(n as u64, &mut digits);
-    let next = test_rows::append(text, at, &digits[..count]);
-    test_rows::append(text, next, &[behind])
-}
-
-// The last n binary digits of a number, with another byte at one place, at none where that is 0; and a byte behind them.
-pub fn append_row(
-    text: &mut [u8],
-    at: usize,
-    n: usize,
-    number: usize,
-    wrong: usize,
-    byte: u8,
-    behind: u8,
-) -> usize
-    requires { ⌜ (at ≤ 8192) × (8192 ≡ length (now text)) × (n ≤ mostStations) ⌝ }
-    ensures { λ r. ⌜ (r ≤ 8192) × (8192 ≡ length (now (text .exit))) ⌝ }
-{
-    let row = test_rows::row_of_number(n, number);
-    let mut next = at;
+    let mut row = test_rows::row_of_number(n, number);
     let mut i: usize = 0;
-    while i < n {
-        let mut symbol = 48 + row[i] % 2;
-        if i + 1 == wrong {
-            symbol = byte;
-        }
-        next = test_rows::append(text, next, &[symbol]);
+    while i < refusal::MOST_STATIONS {
+        row[i] = b'0' + row[i] % 2;
         i += 1;
     }
-    test_rows::append(text, next, &[behind])
+    row
 }
 
 // A refusal's text.
@@ -47,9 +23,7 @@ pub fn append_refusal(text: &mut [u8], number: usize, place: usize) -> usize
     requires { ⌜ 8192 ≡ length (now text) ⌝ }
     ensures { λ r. ⌜ (r ≤ 8192) × (8192 ≡ length (now (text .exit))) ⌝ }
 {
-    let a = test_rows::append(text, 0, b"refused place\n");
-    let b = append_number(text, a, number, b' ');
-    append_number(text, b, place, b'\n')
+    test_texts::fill(text, 0, b"refused place\n# #\n", number, place, 0, 0, b"")
 }
 
 // The first turn that gives the row back.
@@ -67,41 +41,58 @@ fn period(n: usize, number: usize) -> usize
     n
 }
 
-// A ring's line.
-fn append_ring(
-    text: &mut [u8],
-    at: usize,
-    number: usize,
-    n: usize,
-    row: usize,
-    trials: usize,
-) -> usize
+// A ring's line, or the last.
+fn append_line(text: &mut [u8], at: usize, number: usize, n: usize, book: Book) -> usize
     requires { ⌜ (at ≤ 8192) × (8192 ≡ length (now text)) × (0 < n) × (n ≤ 14) ⌝ }
     ensures { λ r. ⌜ (r ≤ 8192) × (8192 ≡ length (now (text .exit))) ⌝ }
 {
-    let a = append_number(text, at, number, b' ');
-    let b = append_row(text, a, n, row, 0, 0, b' ');
-    let c = append_number(text, b, period(n, row), b' ');
-    append_number(text, c, trials, b'\n')
+    if book.none {
+        return test_texts::fill(text, at, b"end - - #\n", book.owed, 0, 0, 0, b"");
+    }
+    let row = digits(n, book.number);
+    let period = period(n, book.number);
+    test_texts::fill(
+        text,
+        at,
+        b"# @ # #\n",
+        number,
+        period,
+        book.owed,
+        0,
+        &row[..n],
+    )
 }
 
 // The names, the lines of a drawer's book, and its end.
-pub fn append_drawer(text: &mut [u8], n: usize, d: usize, kind: u8, limit: usize) -> usize
-    requires { ⌜ (8192 ≡ length (now text)) × (0 < n) × (n ≤ 14) ⌝ }
+fn append_book(text: &mut [u8], n: usize, half: usize, d: usize, kind: u8, limit: usize) -> usize
+    requires { ⌜ (8192 ≡ length (now text)) × (0 < n) × (n ≤ 14) × (half ≤ 8192) × (limit < 2 * half) ⌝ }
     ensures { λ r. ⌜ (r ≤ 8192) × (8192 ≡ length (now (text .exit))) ⌝ }
 {
-    let half = test_walks::book::half_of(n);
-    let mut book = test_walks::book::opened(n, half, d, kind, limit % (2 * half));
-    let mut at = test_rows::append(text, 0, b"number row period trials\n");
+    let mut at = test_texts::append(text, 0, b"number row period trials\n");
+    let mut book = test_walks::book::opened(n, half, d, kind, limit);
     let mut number: usize = 1;
     while number < 1000 {
+        at = append_line(text, at, number, n, book);
         if book.none {
-            let next = test_rows::append(text, at, b"end - - ");
-            return append_number(text, next, book.owed, b'\n');
+            return at;
         }
-        at = append_ring(text, at, number, n, book.number, book.owed);
         book = test_walks::book::stepped(n, half, d, kind, book, 1000);
         number += 1;
     }
     0
+}
+
+// The text of a drawer of up to 14 stations.
+pub fn append_drawer(text: &mut [u8], n: usize, d: usize, kind: u8, limit: usize) -> usize
+    requires { ⌜ 8192 ≡ length (now text) ⌝ }
+    ensures { λ r. ⌜ (r ≤ 8192) × (8192 ≡ length (now (text .exit))) ⌝ }
+{
+    if n == 0 {
+        return 0;
+    }
+    if 14 < n {
+        return 0;
+    }
+    let half = test_walks::book::half_of(n);
+    append_book(text, n, half, d, kind, limit % (2 * half))
 }

@@ -39,7 +39,7 @@ pub enum Refusal {
 pub fn are_stations(n: usize) -> bool
     ensures { λ r. ⌜ r ≡ areStations n ⌝ }
 {
-    if 1 <= n { n <= MOST_STATIONS } else { false }
+    1 <= n && n <= MOST_STATIONS
 }
 
 // The refusal's number.

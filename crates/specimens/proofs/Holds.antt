@@ -3,10 +3,11 @@ use mathlib.Core.List.{headD}
 use mathlib.Core.Path.{refl}
 use Rattle.density.specs.Density.{allRows, density}
 use Rattle.density.specs.Necklaces.{begins, isKind, isNecklaceOf, largestNecklace, necklaces, ofKind}
+use Rattle.density.specs.Rows.{isPadded}
 use Rattle.gaps.specs.Gaps.{gapsFrom, gapsOfRow}
 use Rattle.refusal.specs.Verdicts.{areStations}
 use Rattle.specimens.specs.Starred.{Say, starred}
-use Rattle.walk.specs.Fit.{fit, fitAt, fitRow, fitSizes}
+use Rattle.walk.specs.Fit.{fit, fitAt, fitSizes}
 use Rattle.walk.specs.Moves.{moveAt}
 use Rattle.walk.specs.Opening.{openVerdict}
 use Rattle.walk.specs.Step.{enough, run, stepOf, walkAnswers}
@@ -16,5 +17,5 @@ use Rattle.words.specs.Symbols.{allUpTo, firstWrong}
 use Rattle.words.specs.Tests.{allBelow, any, firstFrom, isPrefix, keep}
 
 pub starred-hold : Say starred
-unfolding starred openVerdict areStations firstWrong cmp le lt same allBelow firstFrom keep any isPrefix rotation isNecklace period isLeastAt leastIndex leastRotation density allRows isNecklaceOf necklaces headD largestNecklace begins gapsFrom gapsOfRow walkAnswers stepOf fit fitAt fitSizes fitRow allUpTo run enough moveAt isKind ofKind isLyndon
+unfolding starred openVerdict areStations firstWrong cmp le lt same allBelow firstFrom keep any isPrefix rotation isNecklace period isLeastAt leastIndex leastRotation density allRows isNecklaceOf necklaces headD largestNecklace begins gapsFrom gapsOfRow walkAnswers stepOf fit fitAt fitSizes isPadded allUpTo run enough moveAt isKind ofKind isLyndon
 starred-hold = ((refl, refl, refl), ((refl, refl, refl), (refl, (refl, (refl, (refl, (refl, (refl, (refl, (refl, (refl, (refl, (refl, (refl, tt))))))))))))))

@@ -1,7 +1,7 @@
 // The drawer's book by a plain listing. A row of n stations is a number, the first symbol its highest binary digit; half is 2 to the n - 1.
 ghost use Prim.Native.Nat.{_<_, _≤_, _+_, _*_};
 
-// What is next in the book: a line's number or none, and the trials owed to it. After none nothing is to come.
+// What is next in the book: a line's number or none, which has number 0, and the trials owed to it. After none nothing is to come.
 pub struct Book {
     pub number: usize,
     pub none: bool,
@@ -172,7 +172,7 @@ fn after(n: usize, half: usize, d: usize, kind: u8, x: usize, line: bool) -> Boo
     }
     owed += holes(number, n, is_line);
     Book {
-        number,
+        number: 0,
         none: true,
         over: false,
         owed,
@@ -213,14 +213,10 @@ pub fn says(book: Book, allowance: usize) -> u8 {
 
 // The trials of a step.
 pub fn trials(book: Book, allowance: usize) -> usize {
-    if book.over {
-        return 0;
-    }
     if allowance < book.owed {
-        allowance
-    } else {
-        book.owed
+        return allowance;
     }
+    book.owed
 }
 
 // The book after a step.
@@ -230,9 +226,6 @@ pub fn stepped(n: usize, half: usize, d: usize, kind: u8, book: Book, allowance:
     requires { ⌜ book .number < 2 * half ⌝ }
     ensures { λ r. ⌜ r .number < 2 * half ⌝ }
 {
-    if book.over {
-        return book;
-    }
     if allowance < book.owed {
         return Book {
             number: book.number,
@@ -243,7 +236,7 @@ pub fn stepped(n: usize, half: usize, d: usize, kind: u8, book: Book, allowance:
     }
     if book.none {
         return Book {
-            number: book.number,
+            number: 0,
             none: true,
             over: true,
             owed: 0,

@@ -38,21 +38,7 @@ pub fn standing_place(at: Standing) -> usize {
 
 // Whether all 64 bytes are the same.
 pub fn same_row(row: &[u8; refusal::MOST_STATIONS], other: &[u8; refusal::MOST_STATIONS]) -> bool {
-    let mut i: usize = 0;
-    while i < refusal::MOST_STATIONS {
-        if row[i] != other[i] {
-            return false;
-        }
-        i += 1;
-    }
-    true
-}
-
-pub fn same_standing(at: Standing, other: Standing) -> bool {
-    if standing_number(at) != standing_number(other) {
-        return false;
-    }
-    standing_place(at) == standing_place(other)
+    test_rows::order(row, 0, other, 0, refusal::MOST_STATIONS) == 1
 }
 
 pub fn same_walk(w: Walk, other: Walk) -> bool {
@@ -69,10 +55,13 @@ pub fn same_walk(w: Walk, other: Walk) -> bool {
     if w.kind != other.kind {
         return false;
     }
-    if !same_row(&row, &other_row) {
+    if standing_number(at) != standing_number(other_at) {
         return false;
     }
-    same_standing(at, other_at)
+    if standing_place(at) != standing_place(other_at) {
+        return false;
+    }
+    same_row(&row, &other_row)
 }
 
 // ---- sums, none above a billion
@@ -86,11 +75,6 @@ pub fn plus(x: usize, y: usize) -> usize {
         return most;
     }
     x + y
-}
-
-// A number of trials to be added up.
-pub fn few(trials: u64) -> usize {
-    if trials < 1000 { trials as usize } else { 1000 }
 }
 
 // ---- printing

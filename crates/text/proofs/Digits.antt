@@ -94,8 +94,3 @@ module _ {n end : ℕ} {text : List ℕ} {from rest : ℕ} (s : Spelled n end te
   pub spelled-part : rest < 10 → take (21 - (from - 1)) (drop (from - 1) (set text (from - 1) (48 + rest))) ≡ field n end
   spelled-part h =
       take-all (21 - (from - 1)) (drop (from - 1) (set text (from - 1) (48 + rest))) (simp (length-drop, length-set) (omega arith)) ∙ sym (spelled-all h)
-
--- the largest number of 64 bits
-pub example-large : decimal 18446744073709551615 ≡ 49 ∷ 56 ∷ 52 ∷ 52 ∷ 54 ∷ 55 ∷ 52 ∷ 52 ∷ 48 ∷ 55 ∷ 51 ∷ 55 ∷ 48 ∷ 57 ∷ 53 ∷ 53 ∷ 49 ∷ 54 ∷ 49 ∷ 53 ∷ []
-unfolding decimal decimalBy
-example-large = refl

@@ -6,5 +6,5 @@ pub mod Numerals
 pub mod Written
 -- the digits of a number
 pub mod Digits
--- what is written is read back
-pub mod ReadBack
+-- what is claimed in specs/
+pub mod Claims

@@ -3,3 +3,4 @@ pub mod Parts
 pub mod Decimals
 pub mod Symbols
 pub mod Buffers
+pub mod Claims

@@ -12,18 +12,8 @@ pub fn belongs(sort: Bytes, byte: u8) -> bool
     ensures { λ r. ⌜ r ≡ Parts·belongs sort byte ⌝ }
 {
     match sort {
-        Bytes::Digits => {
-            if byte < b'0' {
-                return false;
-            }
-            byte <= b'9'
-        }
-        Bytes::Unspaced => {
-            if byte == b' ' {
-                return false;
-            }
-            byte != b'\n'
-        }
+        Bytes::Digits => b'0' <= byte && byte <= b'9',
+        Bytes::Unspaced => byte != b' ' && byte != b'\n',
     }
 }
 
@@ -48,10 +38,7 @@ pub fn stands_at(text: &[u8], at: usize, word: &[u8]) -> bool
     let mut i = at;
     let mut k: usize = 0;
     while k < word.len() {
-        if text.len() <= i {
-            return false;
-        }
-        if word[k] != text[i] {
+        if text.len() <= i || word[k] != text[i] {
             return false;
         }
         i += 1;
@@ -75,10 +62,7 @@ pub fn numeral_at(text: &[u8], at: usize) -> Numeral
     ensures { λ r. ⌜ r ≡ numeralAt (now (text .entry)) at ⌝ }
 {
     let count = run_at(text, at, Bytes::Digits);
-    if count == 0 {
-        return Numeral::NoNumber;
-    }
-    if 3 < count {
+    if count == 0 || 3 < count {
         return Numeral::NoNumber;
     }
     let first = digit(text[at]);

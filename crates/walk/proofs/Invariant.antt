@@ -5,12 +5,13 @@ use mathlib.Core.Path.{_≡_}
 use Prim.Native.Nat.{suc, ℕ, _-_, _<_, _≤_}
 use native.Mathlib.Omega.{arith}
 use lib.Dec.{leb}
-use lib.ListN.{drop, getD, length, length-replicate, length-set, set, take}
+use lib.ListN.{getD, length, length-replicate, length-set, set, take}
 use lib.Seq.{drop-set-lt, getD-take, take-set-lt}
 use borrow.Author.Tests.{le-leb, leb-true}
 use Rattle.density.proofs.Binary.{Binary, binary-at, binary-set, binary-test, test-binary, within-binary}
 use Rattle.density.specs.Necklaces.{begins, isNecklaceOf}
 use Rattle.walk.specs.InnerCourse.{Sound}
+use Rattle.density.proofs.PaddedRows.{padded→, →padded}
 use Rattle.walk.specs.Fit.{fit, fitAt, fitRow, fitSizes}
 use Rattle.walk.specs.Moves.{Rules, ended, moved, rowOf}
 use Rattle.walk.specs.declared.Standing.{Standing}
@@ -19,7 +20,7 @@ use Rattle.walk.specs.declared.Walk.{Walk}
 use Rattle.words.proofs.Booleans.{→and}
 use Rattle.words.proofs.Alphabet.{within-replicate, within-take}
 use Rattle.words.proofs.HighestSymbol.{zeros-clean}
-use Rattle.words.specs.Symbols.{allUpTo, zeros}
+use Rattle.words.specs.Symbols.{zeros}
 
 -- ---- what every record on the way has
 
@@ -56,20 +57,20 @@ pub record Fit (R : Rules) (w : Walk) : Type 0 where
   pub long : length (w .row) ≡ R .most
 
 pub sound-fit : {R : Rules} {w : Walk} → Sound R w → fitAt R (w .at) w ≡ true → Fit R w
-unfolding fit fitSizes fitRow
+unfolding fit fitSizes
 sound-fit {R} {w} s e = record {
   test =
       →and (→and (le-leb _ _ (s .some)) (→and (le-leb _ _ (s .most)) (→and (le-leb _ _ (s .dense)) (s .kinds))))
-      (→and (→and (binary-test (s .binary)) (s .clean)) e);
+      (→and (→padded (w .n) (w .row) (binary-test (s .binary)) (s .clean)) e);
   long = s .long;
 }
 
 pub fit-sound : {R : Rules} {w : Walk} → Fit R w → Sound R w
-unfolding fit fitSizes fitRow
+unfolding fit fitSizes
 fit-sound {R} {w} f =
     let a = and-eq-true-iff (fitSizes R w) (fitRow w && fitAt R (w .at) w) .0 (f .test) in
     let b = and-eq-true-iff (fitRow w) (fitAt R (w .at) w) .0 (a .1) in
-    let c = and-eq-true-iff (allUpTo 1 (rowOf w)) (allUpTo 0 (drop (w .n) (w .row))) .0 (b .0) in
+    let c = padded→ (w .n) (w .row) (b .0) in
     let s = and-eq-true-iff (leb 1 (w .n)) (leb (w .n) (R .most) && (leb (w .d) (w .n) && R .known (w .kind))) .0 (a .0) in
     let t = and-eq-true-iff (leb (w .n) (R .most)) (leb (w .d) (w .n) && R .known (w .kind)) .0 (s .1) in
     let u = and-eq-true-iff (leb (w .d) (w .n)) (R .known (w .kind)) .0 (t .1) in

@@ -3,7 +3,7 @@ use mathlib.Core.Bool.{true, false}
 use mathlib.Core.List.{List}
 use mathlib.Core.Logic.{inl, inr, _⊎_}
 use mathlib.Core.Path.{ap, subst, sym, _∙_, _≡_}
-use Prim.Native.Nat.{suc, zero, ℕ, _-_, _<_, _≤_}
+use Prim.Native.Nat.{suc, zero, ℕ, _-_, _≤_}
 use native.Mathlib.Nat.{le-refl}
 use native.Mathlib.Omega.{arith}
 use lib.ListN.{length, take}
@@ -14,13 +14,14 @@ use Rattle.refusal.specs.declared.Refusal.the-variants.{Unfit}
 use Rattle.walk.proofs.Invariant.{Fit, fit-at, fit-sound}
 use Rattle.walk.proofs.MoveCases.{good-long, good-symbols}
 use Rattle.walk.proofs.StepAgrees.{fit-placed, fit-step}
-use Rattle.walk.specs.InnerCourse.{Good, GoodAt, Ready, Resumes, before, landed, rest, resumed, size}
+use Rattle.walk.specs.InnerCourse.{Good, GoodAt, Informed, Ready, Resumes, before, landed, rest, resumed}
 use Rattle.walk.specs.Fit.{fit}
-use Rattle.walk.specs.Moves.{moved, rowOf, rules}
+use Rattle.walk.specs.Moves.{rowOf, rules}
 use Rattle.walk.specs.Step.{stepOf, stepped}
 use Rattle.walk.specs.declared.Answer.{Answer}
 use Rattle.walk.specs.declared.Answer.the-variants.{Refused}
 use Rattle.walk.specs.declared.Reached.{Reached}
+use Rattle.walk.specs.declared.Said.{Said}
 use Rattle.walk.specs.declared.Said.the-variants.{Nothing, Says}
 use Rattle.walk.specs.declared.Standing.{Standing}
 use Rattle.walk.specs.declared.Standing.the-variants.{Down, Ended, Given, Limit, Up}
@@ -34,13 +35,10 @@ pub unfit-step : (allowance : ℕ) (w : Walk) → fit rules w ≡ false → step
 unfolding stepOf
 unfit-step allowance w e = rw e
 
--- from `first` the loop has come to this row and standing, with so many trials left
-pub record Going (first : Walk) (allowance : ℕ) (prefixes row : List ℕ) (at : Standing) (left : ℕ) (known : Known) : Type 0 where
-  pub ready : Ready (moved first row at)
-  pub table : KnowsPrefixes (take (first .n) row) prefixes
-  pub knows : Knows (take (before at (first .n)) row) known
+-- from `first`, allowed so many trials, the loop has come to w, with so many left
+pub record Going (first : Walk) (allowance : ℕ) (w : Walk) (left : ℕ) : Type 0 where
   pub fits : left ≤ allowance
-  pub same : rest allowance left (moved first row at) ≡ stepOf rules first allowance
+  pub same : rest allowance left w ≡ stepOf rules first allowance
 
 -- ---- the loop begins
 
@@ -67,50 +65,50 @@ module _ (allowance : ℕ) (w : Walk) (e : fit rules w ≡ true) (l : length (w 
       let h = fit-placed rules w (w .at) (fit-at fitting) in
       record { sound = fit-sound fitting; placed = h; within = within-row w (w .at) h }
 
-  pub going-first : (prefixes : List ℕ) (known : Known) → KnowsPrefixes (rowOf w) prefixes → (before (w .at) (w .n) ≤ w .n → Knows (take (before (w .at) (w .n)) (w .row)) known)
-      → Going w allowance prefixes (w .row) (w .at) allowance known
-  going-first prefixes known t k =
-      let m : allowance - allowance ≡ 0 = omega arith in
-      record { ready = first-ready; table = t; knows = k (first-ready .within); fits = le-refl allowance; same = rw m (sym (fit-step rules w allowance fitting)) }
+  pub first-informed : (prefixes : List ℕ) (known : Known) → KnowsPrefixes (rowOf w) prefixes → (before (w .at) (w .n) ≤ w .n → Knows (take (before (w .at) (w .n)) (w .row)) known)
+      → Informed w prefixes known
+  first-informed prefixes known t k = record { ready = first-ready; table = t; knows = k (first-ready .within) }
+
+  pub going-first : Going w allowance w allowance
+  going-first = let m : allowance - allowance ≡ 0 = omega arith in record { fits = le-refl allowance; same = rw m (sym (fit-step rules w allowance fitting)) }
 
 -- ---- one turn
 
-module _ {first : Walk} {allowance : ℕ} {prefixes row : List ℕ} {at : Standing} {left : ℕ} {known : Known} (g : Going first allowance prefixes row at left known) (r : Reached) (q : Resumes (moved first row at) left r) where
+module _ {first : Walk} {allowance : ℕ} {w : Walk} {left : ℕ} (g : Going first allowance w left) (r : Reached) (q : Resumes w left r) where
   pub turn-fits : r .left ≤ allowance
   turn-fits = omega (arith, q .fewer, g .fits)
 
+  turn-same : (s : Said) → r .said ≡ s → resumed s allowance (r .left) (landed w r) ≡ stepOf rules first allowance
+  turn-same s e = sym (q .same allowance (g .fits) ∙ ap (λ t. resumed t allowance (r .left) (landed w r)) e) ∙ g .same
+
   -- the answer
-  pub turn-says : (x : Answer) → r .said ≡ Says x → stepped (moved first (r .row) (r .at)) x (allowance - r .left) ≡ stepOf rules first allowance
-  turn-says x e = sym (q .same allowance (g .fits) ∙ ap (λ s. resumed s allowance (r .left) (landed first r)) e) ∙ g .same
+  pub turn-says : (x : Answer) → r .said ≡ Says x → stepped (landed w r) x (allowance - r .left) ≡ stepOf rules first allowance
+  turn-says x e = turn-same (Says x) e
 
   -- a ring of another kind
-  module _ (e : r .said ≡ Nothing) where
-    good : Good rules (landed first r)
-    good = q .good e
+  pub turn-again : r .said ≡ Nothing → Going first allowance (landed w r) (r .left)
+  turn-again e = record { fits = turn-fits; same = turn-same Nothing e }
 
-    inside : first .n ≤ length (r .row)
-    inside = omega (arith, good-long good, good .sound .most)
+-- where a ring of another kind was found
+module _ {w : Walk} {left : ℕ} {r : Reached} (q : Resumes w left r) (e : r .said ≡ Nothing) where
+  good : Good rules (landed w r)
+  good = q .good e
 
-    pub turn-length : length (take (first .n) (r .row)) ≡ first .n
-    turn-length = length-take-le (first .n) (r .row) inside
+  pub struck-inside : w .n ≤ mostStations
+  struck-inside = good .sound .most
 
-    pub turn-inside : first .n ≤ mostStations
-    turn-inside = good .sound .most
+  pub struck-long : length (r .row) ≡ mostStations
+  struck-long = good-long good
 
-    pub turn-long : length (r .row) ≡ mostStations
-    turn-long = good-long good
+  pub struck-length : length (rowOf (landed w r)) ≡ w .n
+  struck-length = length-take-le (w .n) (r .row) (omega (arith, struck-long, struck-inside))
 
-    pub turn-symbols : Within 2 (take (first .n) (r .row))
-    turn-symbols = within-take (first .n) (r .row) (good-symbols good)
+  pub struck-symbols : Within 2 (rowOf (landed w r))
+  struck-symbols = within-take (w .n) (r .row) (good-symbols good)
 
-    pub turn-again : (prefixes′ : List ℕ) (known′ : Known) → KnowsPrefixes (take (first .n) (r .row)) prefixes′ → Knows (take (first .n) (r .row)) known′ → Going first allowance prefixes′ (r .row) (r .at) (r .left) known′
-    turn-again prefixes′ known′ t k = record {
-      ready = record { sound = good .sound; placed = inr (good .placed); within = subst (λ s. before s (first .n) ≤ first .n) (sym (q .given e)) (le-refl (first .n)) };
-      table = t;
-      knows = subst (λ s. Knows (take (before s (first .n)) (r .row)) known′) (sym (q .given e)) k;
-      fits = turn-fits;
-      same = sym (q .same allowance (g .fits) ∙ ap (λ s. resumed s allowance (r .left) (landed first r)) e) ∙ g .same;
-    }
-
-    pub turn-less : size (moved first (r .row) (r .at)) < size (moved first row at)
-    turn-less = q .smaller e
+  pub struck-informed : (prefixes : List ℕ) (known : Known) → KnowsPrefixes (rowOf (landed w r)) prefixes → Knows (rowOf (landed w r)) known → Informed (landed w r) prefixes known
+  struck-informed prefixes known t k = record {
+    ready = record { sound = good .sound; placed = inr (good .placed); within = subst (λ s. before s (w .n) ≤ w .n) (sym (q .given e)) (le-refl (w .n)) };
+    table = t;
+    knows = subst (λ s. Knows (take (before s (w .n)) (r .row)) known) (sym (q .given e)) k;
+  }

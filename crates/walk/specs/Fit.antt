@@ -4,11 +4,12 @@ use mathlib.Core.List.{List·Memᴰ}
 use mathlib.Core.Logic.{_⊎_}
 use mathlib.Core.Path.{_≡_}
 use Prim.Native.Nat.{ℕ, _-_, _≤_}
-use lib.ListN.{getD, take, drop}
+use lib.ListN.{getD, take}
 use lib.Dec.{leb}
 use Rattle.words.specs.Symbols.{Within, allUpTo}
 use Rattle.refusal.specs.Verdicts.{mostStations}
 use Rattle.density.specs.Necklaces.{isNecklaceOf, begins, necklaces, ofKind}
+use Rattle.density.specs.Rows.{isPadded}
 use Rattle.walk.specs.declared.Standing.{Standing}
 use Rattle.walk.specs.declared.Standing.the-variants.{Limit, Down, Up, Given, Ended}
 use Rattle.walk.specs.declared.Walk.{Walk}
@@ -19,8 +20,8 @@ unfoldable pub fitSizes : Rules → Walk → Bool
 fitSizes R w = leb 1 (w .n) && (leb (w .n) (R .most) && (leb (w .d) (w .n) && R .known (w .kind)))
 
 -- not "a byte above 1 in places 1 to n, or not 0 after n"
-unfoldable pub fitRow : Walk → Bool
-fitRow w = allUpTo 1 (rowOf w) && allUpTo 0 (drop (w .n) (w .row))
+abbrev pub fitRow : Walk → Bool
+fitRow w = isPadded (w .n) (w .row)
 
 -- not "Down p with p not 1 to n; Up p with p not 2 to n, or whose first p-1 symbols begin no ring of the drawer; Given with a row
 -- not in the drawer and kind; Ended with a row not zeros"

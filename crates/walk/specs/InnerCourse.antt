@@ -7,6 +7,8 @@ use Prim.Native.Nat.{ℕ, suc, zero, _*_, _+_, _-_, _<_, _≤_}
 use lib.ListN.{drop, length, take}
 use Rattle.density.proofs.Binary.{Binary}
 use Rattle.density.specs.Necklaces.{begins, isNecklaceOf}
+use Rattle.prefix.specs.InnerCarried.{Knows, KnowsPrefixes}
+use Rattle.prefix.specs.declared.carried.Known.{Known}
 use Rattle.words.specs.Symbols.{Within, allUpTo}
 use Rattle.refusal.specs.Verdicts.{mostStations}
 use Rattle.walk.specs.Moves.{Rules, moved, rowOf, rules}
@@ -66,6 +68,12 @@ pub record Ready (w : Walk) : Type 0 where
   pub sound : Sound rules w
   pub placed : (w .at ≡ Ended) ⊎ GoodAt (w .at) w
   pub within : before (w .at) (w .n) ≤ w .n
+
+-- and what is known of it: of the prefixes of its row, and of the symbols before the place where it stands
+pub record Informed (w : Walk) (prefixes : List ℕ) (known : Known) : Type 0 where
+  pub ready : Ready w
+  pub table : KnowsPrefixes (rowOf w) prefixes
+  pub knows : Knows (take (before (w .at) (w .n)) (w .row)) known
 
 -- ---- how many moves a walk may still make, at most
 

@@ -12,12 +12,12 @@ ghost use Prim.Native.Nat.{_+_, _-_};
 ghost use lib.ListN.{take};
 ghost use Rattle.prefix.specs.InnerCarried.{Knows, KnowsPrefixes};
 ghost use Rattle.walk.specs.Moves.{rowOf, rules, goneBelow};
-ghost use Rattle.walk.specs.InnerCourse.{Good, Ready, Resumes, before};
+ghost use Rattle.walk.specs.InnerCourse.{Good, Informed, Resumes};
 
 impl Walk {
     // From where the walk stands to an answer, or to a ring of another kind.
     pub fn go_on(self, prefixes: &Prefixes, known: Known, left: u64) -> Reached
-        requires { ⌜ Ready self × KnowsPrefixes (rowOf self) (now prefixes) × Knows (take (before (self .at) (self .n)) (self .row)) known ⌝ }
+        requires { ⌜ Informed self (now prefixes) known ⌝ }
         ensures { λ r. ⌜ Resumes self left r ⌝ }
     {
         let row = self.row;
@@ -123,7 +123,7 @@ impl Walk {
                 left -= 1;
                 row[q] = 0;
                 let tried = known.longer(&row[..p]);
-                if tried.begins(n, d, row, p) {
+                if tried.ask(n, d, row, p) {
                     let walk = Walk {
                         row,
                         at: Standing::Up(p + 1),
@@ -167,7 +167,7 @@ impl Walk {
             left -= 1;
             let i = p - 1;
             row[i] = 1;
-            if !known.begins_with_one(n, d, &row[..p]) {
+            if !known.ask_with_one(n, d, &row[..p]) {
                 row[i] = 0;
             }
             known = known.longer(&row[..p]);

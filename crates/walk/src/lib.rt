@@ -1,6 +1,5 @@
 // A walk of the necklaces of (n, d), held by value: opened at a limit, stepped with an allowance of trials.
 mod course;
-mod rows;
 
 use density::drawers::Checked;
 use prefix::carried::Known;
@@ -8,7 +7,7 @@ use prefix::carried::Prefixes;
 use refusal::Refusal;
 ghost use mathlib.Core.Path.{_≡_};
 ghost use mathlib.Core.Bool.{_&&_};
-ghost use Prim.Native.Nat.{_≤_, _<_};
+ghost use Prim.Native.Nat.{_-_, _≤_};
 ghost use lib.ListN.{take};
 ghost use Rattle.prefix.specs.InnerCarried.{Knows, KnowsPrefixes};
 ghost use Rattle.walk.specs.Moves.{rowOf, rules};
@@ -16,8 +15,7 @@ ghost use Rattle.walk.specs.Fit.{fitSizes, fitRow, fitAt};
 ghost use Rattle.walk.specs.Step.{stepDue, stepNumbers, stepOf, stepped};
 ghost use Rattle.walk.specs.Opening.{openOutcome, openVerdict, openWalk, refusedWalk};
 ghost use Rattle.walk.specs.InnerCourse.{Fitting, before};
-ghost use Rattle.refusal.specs.Outcomes.{Outcome, decide};
-ghost use Rattle.refusal.specs.Verdicts.{mostStations};
+ghost use Rattle.refusal.specs.Outcomes.{decide};
 
 // Where a walk stands.
 pub enum Standing {
@@ -77,25 +75,31 @@ pub struct Reached {
     pub said: Said,
 }
 
-// The walk of a refused opening.
-fn not_open(r: Refusal) -> Opened
-    ensures { λ o. ⌜ (openOutcome (o .answer) ≡ Outcome.refused r) × (o .walk ≡ refusedWalk rules) ⌝ }
+// One less, and 0 of 0.
+fn one_less(p: usize) -> usize
+    ensures { λ r. ⌜ r ≡ p - 1 ⌝ }
 {
-    let row = [0u8; refusal::MOST_STATIONS];
-    let walk = Walk {
-        n: 1,
-        d: 0,
-        kind: 1,
-        row,
-        at: Standing::Ended,
-    };
-    Opened {
-        walk,
-        answer: OpenAnswer::Refused(r),
+    if p == 0 {
+        return 0;
     }
+    p - 1
 }
 
 impl Walk {
+    // The walk that a refused opening hands back.
+    pub fn refused() -> Walk
+        ensures { λ r. ⌜ r ≡ refusedWalk rules ⌝ }
+    {
+        let row = [0u8; refusal::MOST_STATIONS];
+        Walk {
+            n: 1,
+            d: 0,
+            kind: 1,
+            row,
+            at: Standing::Ended,
+        }
+    }
+
     // Opens a walk of the necklaces of (n, d) of a kind, at or below a limit.
     pub fn open(n: usize, d: usize, kind: u8, limit: &[u8]) -> Opened
         ensures answer { λ r. ⌜ openOutcome (r .answer) ≡ decide (openVerdict n d kind (now (limit .entry))) tt ⌝ }
@@ -103,7 +107,10 @@ impl Walk {
     {
         let checked = density::drawers::check_drawer(n, d, kind, limit);
         if let Checked::Refused(r) = checked {
-            return not_open(r);
+            return Opened {
+                walk: Walk::refused(),
+                answer: OpenAnswer::Refused(r),
+            };
         }
         let row = density::rows::padded(limit);
         let walk = Walk {
@@ -119,43 +126,18 @@ impl Walk {
         }
     }
 
-    // n, d and the kind are in range.
-    fn fit_sizes(self) -> bool
-        ensures { λ r. ⌜ r ≡ fitSizes rules self ⌝ }
+    // n, d, the kind and the symbols are in range.
+    fn fit_record(self) -> bool
+        ensures { λ r. ⌜ r ≡ (fitSizes rules self && fitRow self) ⌝ }
     {
         let n = self.n;
         let d = self.d;
         let kind = self.kind;
-        if !refusal::are_stations(n) {
-            return false;
-        }
-        if n < d {
-            return false;
-        }
-        density::kinds::is_kind(kind)
-    }
-
-    // n symbols, and zeros after them.
-    fn fit_row(self) -> bool
-        requires { ⌜ self .n ≤ mostStations ⌝ }
-        ensures { λ r. ⌜ r ≡ fitRow self ⌝ }
-    {
-        let n = self.n;
         let row = self.row;
-        if 1 < rows::highest(&row[..n]) {
-            return false;
-        }
-        rows::highest(&row[n..]) == 0
-    }
-
-    // Sizes and symbols in range.
-    fn fit_record(self) -> bool
-        ensures { λ r. ⌜ r ≡ (fitSizes rules self && fitRow self) ⌝ }
-    {
-        if !self.fit_sizes() {
-            return false;
-        }
-        self.fit_row()
+        refusal::are_stations(n)
+            && d <= n
+            && density::kinds::is_kind(kind)
+            && density::rows::is_padded(&row, n)
     }
 
     // The row fits where the walk stands. The symbols before that place are known.
@@ -170,29 +152,12 @@ impl Walk {
         let at = self.at;
         match at {
             Standing::Limit => true,
-            Standing::Down(p) => {
-                if p < 1 {
-                    return false;
-                }
-                p <= n
-            }
-            Standing::Up(p) => {
-                if p < 2 {
-                    return false;
-                }
-                if n < p {
-                    return false;
-                }
-                let i = p - 1;
-                known.begins(n, d, row, i)
-            }
+            Standing::Down(p) => 1 <= p && p <= n,
+            Standing::Up(p) => 2 <= p && p <= n && known.ask(n, d, row, p - 1),
             Standing::Given => {
-                if !known.is_necklace_of(d, &row[..n]) {
-                    return false;
-                }
-                known.is_of_kind(kind, &row[..n])
+                known.is_necklace_of(d, &row[..n]) && known.is_of_kind(kind, &row[..n])
             }
-            Standing::Ended => rows::highest(&row) == 0,
+            Standing::Ended => density::rows::highest(&row) == 0,
         }
     }
 
@@ -204,8 +169,8 @@ impl Walk {
         let at = self.at;
         match at {
             Standing::Limit => n,
-            Standing::Down(p) => rows::one_less(p),
-            Standing::Up(p) => rows::one_less(p),
+            Standing::Down(p) => one_less(p),
+            Standing::Up(p) => one_less(p),
             Standing::Given => n,
             Standing::Ended => 0,
         }

@@ -6,15 +6,6 @@ use walk::Walk;
 ghost use Prim.Native.Nat.{_<_, _≤_};
 ghost use Rattle.refusal.specs.Verdicts.{mostStations};
 
-fn kind_of(number: usize) -> u8 {
-    match number {
-        0 => 0,
-        1 => 1,
-        2 => 2,
-        _ => 3,
-    }
-}
-
 // Limit, Given, Ended, then Down 0, Up 0, Down 1, Up 1 and so on.
 fn standing_of(number: usize) -> Standing {
     if number == 0 {
@@ -46,7 +37,7 @@ fn record(n: usize, rows: usize, index: usize) -> Walk
     Walk {
         n,
         d: kinds % (n + 2),
-        kind: kind_of(index % 4),
+        kind: (index % 4) as u8,
         row,
         at,
     }
@@ -68,23 +59,31 @@ fn step_all(n: usize, rows: usize, records: usize, allowance: u64) -> Outcomes
     outcomes
 }
 
+// Steps that are allowed up to 4 trials, or plenty.
+fn show_steps(n: usize, rows: usize, records: usize, allowance: usize)
+    requires { ⌜ n ≤ mostStations ⌝ }
+    requires { ⌜ 0 < rows ⌝ }
+{
+    test_rows::print_filled(b"n # records #", &[n, records]);
+    if allowance < 5 {
+        test_rows::print_named(b" allowed ", allowance);
+    } else {
+        io::write_all(1, b" plenty allowed");
+    }
+    outcomes::print_outcomes(step_all(n, rows, records, allowance as u64));
+}
+
 // n stations have 4 (n + 2) (2 n + 7) records for each row.
 fn show_all(n: usize, rows: usize, records: usize)
     requires { ⌜ n ≤ mostStations ⌝ }
     requires { ⌜ 0 < rows ⌝ }
 {
-    let mut allowance: usize = 0;
-    while allowance < 5 {
-        test_rows::print_named(b"n ", n);
-        test_rows::print_named(b" records ", records);
-        test_rows::print_named(b" allowed ", allowance);
-        outcomes::print_outcomes(step_all(n, rows, records, allowance as u64));
-        allowance += 1;
-    }
-    test_rows::print_named(b"n ", n);
-    test_rows::print_named(b" records ", records);
-    io::write_all(1, b" plenty allowed");
-    outcomes::print_outcomes(step_all(n, rows, records, 1000));
+    show_steps(n, rows, records, 0);
+    show_steps(n, rows, records, 1);
+    show_steps(n, rows, records, 2);
+    show_steps(n, rows, records, 3);
+    show_steps(n, rows, records, 4);
+    show_steps(n, rows, records, 1000);
 }
 
 pub fn show_records() {

@@ -57,7 +57,7 @@ pub fn outcome(w: Walk, allowance: u64) -> Outcomes {
         spent: test_rows::one_if(said == 21),
         unfit: test_rows::one_if(said == 22),
         changed: test_rows::one_if(is_changed(said, w, after, step.trials)),
-        trials: test_walks::few(step.trials),
+        trials: step.trials as usize,
         rows: number_of(after.n, &row),
         places: test_walks::standing_place(at),
     }
@@ -92,14 +92,18 @@ pub fn nothing() -> Outcomes {
 }
 
 pub fn print_outcomes(outcomes: Outcomes) {
-    test_rows::print_named(b" rings ", outcomes.rings);
-    test_rows::print_named(b" none ", outcomes.nones);
-    test_rows::print_named(b" ended ", outcomes.ended);
-    test_rows::print_named(b" spent ", outcomes.spent);
-    test_rows::print_named(b" unfit ", outcomes.unfit);
-    test_rows::print_named(b" changed ", outcomes.changed);
-    test_rows::print_named(b" trials ", outcomes.trials);
-    test_rows::print_named(b" rows ", outcomes.rows);
-    test_rows::print_named(b" places ", outcomes.places);
-    io::write_all(1, b"\n");
+    test_rows::print_filled(
+        b" rings # none # ended # spent # unfit # changed # trials # rows # places #\n",
+        &[
+            outcomes.rings,
+            outcomes.nones,
+            outcomes.ended,
+            outcomes.spent,
+            outcomes.unfit,
+            outcomes.changed,
+            outcomes.trials,
+            outcomes.rows,
+            outcomes.places,
+        ],
+    );
 }

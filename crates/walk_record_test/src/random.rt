@@ -36,11 +36,14 @@ fn stations(index: usize) -> usize
     drawn(index, 65, 68)
 }
 
-// The symbol at a place: now and then a byte that is none, now and then a 1 behind the row.
+// The symbol at a place: in some rows 0, now and then a byte that is none, now and then a 1 behind the row.
 fn symbol(index: usize, i: usize, n: usize) -> u8
     requires { ⌜ index < 1000000 ⌝ }
     requires { ⌜ i < mostStations ⌝ }
 {
+    if drawn(index, 66, 8) == 0 {
+        return 0;
+    }
     let x = drawn(index, i, 512);
     if x == 0 {
         return 1;
@@ -57,14 +60,10 @@ fn symbol(index: usize, i: usize, n: usize) -> u8
     (x % 2) as u8
 }
 
-// A row, now and then of zeros.
 fn row(index: usize, n: usize) -> [u8; refusal::MOST_STATIONS]
     requires { ⌜ index < 1000000 ⌝ }
 {
     let mut row = [0u8; refusal::MOST_STATIONS];
-    if drawn(index, 66, 8) == 0 {
-        return row;
-    }
     let mut i: usize = 0;
     while i < refusal::MOST_STATIONS {
         row[i] = symbol(index, i, n);
@@ -81,13 +80,7 @@ fn holes(index: usize, n: usize, row: &[u8; refusal::MOST_STATIONS]) -> usize
     if drawn(index, 67, 2) == 0 {
         return drawn(index, 68, n + 2);
     }
-    let mut ones: usize = 0;
-    let mut i: usize = 0;
-    while i < refusal::MOST_STATIONS {
-        ones += test_rows::one_if(row[i] == 1);
-        i += 1;
-    }
-    ones
+    test_rows::count(row, 1)
 }
 
 // 1 or 2, now and then 0 or 3.

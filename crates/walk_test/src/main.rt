@@ -1,6 +1,7 @@
 // The walk against the book that a plain listing gives, its printed examples, and its refusals.
 mod shown;
 
+use test_rows::cases;
 use test_walks::book::Book;
 use walk::Standing;
 use walk::Stepped;
@@ -12,7 +13,7 @@ const STEPS: usize = 20000;
 
 // ---- walks against the book
 
-// What was compared. No count goes above a billion.
+// What was compared, and what differed. A walk counts at its step after the end. No count goes above a billion.
 struct Counts {
     walks: usize,
     rings: usize,
@@ -74,68 +75,49 @@ fn is_due(row: &[u8; refusal::MOST_STATIONS], at: Standing) -> bool {
     }
 }
 
-// Whether the walk's row and standing fit the answer.
-fn left_right(number: usize, n: usize, answer: u8, before: Walk, after: Walk) -> bool {
-    if refusal::MOST_STATIONS < n {
-        return false;
-    }
+// Whether the walk's row and standing fit what the book says.
+fn left_right(number: usize, n: usize, said: u8, before: Walk, after: Walk) -> bool {
     let row = after.row;
     let at = after.at;
-    match answer {
-        0 => {
-            let line = test_rows::row_of_number(n, number);
-            if !test_walks::same_row(&row, &line) {
-                return false;
-            }
-            test_walks::standing_number(at) == 3
-        }
-        1 => {
-            if !test_walks::same_row(&row, &[0u8; refusal::MOST_STATIONS]) {
-                return false;
-            }
-            test_walks::standing_number(at) == 4
-        }
-        20 => test_walks::same_walk(before, after),
-        _ => is_due(&row, at),
+    if said == 20 {
+        return test_walks::same_walk(before, after);
     }
-}
-
-// Whether a step does what the book says.
-fn agrees(book: Book, allowance: usize, n: usize, before: Walk, step: Stepped) -> bool {
-    let said = test_walks::book::says(book, allowance);
-    let answer = step.answer;
-    let after = step.walk;
-    if test_walks::answer_number(answer) != said {
+    if said == 21 {
+        return is_due(&row, at);
+    }
+    let line = test_rows::row_of_number(n, number);
+    if !test_walks::same_row(&row, &line) {
         return false;
     }
-    if step.trials != test_walks::book::trials(book, allowance) as u64 {
-        return false;
-    }
-    left_right(book.number, n, said, before, after)
+    // Given after a ring, Ended after none
+    test_walks::standing_number(at) == 3 + said % 2
 }
 
-// A step, compared.
+// A step, compared with what the book says: the answer, the trials, and the walk that is left.
 fn counted(book: Book, allowance: usize, n: usize, before: Walk, step: Stepped) -> Counts {
     let answer = step.answer;
+    let after = step.walk;
     let said = test_walks::answer_number(answer);
+    let trials = test_walks::book::trials(book, allowance) as u64;
     Counts {
-        walks: 0,
+        walks: test_rows::one_if(book.over),
         rings: test_rows::one_if(said == 0),
-        trials: test_walks::few(step.trials),
+        trials: step.trials as usize,
         spent: test_rows::one_if(said == 21),
-        differing: test_rows::one_if(!agrees(book, allowance, n, before, step)),
+        differing: test_rows::one_if(said != test_walks::book::says(book, allowance))
+            + test_rows::one_if(step.trials != trials)
+            + test_rows::one_if(!left_right(book.number, n, said, before, after)),
     }
 }
 
 // A whole walk, and one step after its end.
 fn compare(n: usize, half: usize, d: usize, kind: u8, limit: usize, pattern: usize) -> Counts
-    requires { ⌜ 0 < n ⌝ }
     requires { ⌜ n ≤ 14 ⌝ }
     requires { ⌜ half ≤ 8192 ⌝ }
     requires { ⌜ limit < 2 * half ⌝ }
 {
     let row = test_rows::row_of_number(n, limit);
-    let opening = Walk::open(n, d, kind, &row[..n]);
+    let opening = Walk::open(n, d, kind, cases::part(&row, 0, n));
     let mut w = opening.walk;
     let mut book = test_walks::book::opened(n, half, d, kind, limit);
     let mut counts = nothing();
@@ -146,114 +128,149 @@ fn compare(n: usize, half: usize, d: usize, kind: u8, limit: usize, pattern: usi
         let step = w.step(allowance as u64);
         counts = sum(counts, counted(book, allowance, n, w, step));
         if book.over {
-            counts.walks = 1;
             return counts;
         }
         book = next;
         w = step.walk;
         i += 1;
     }
-    // not ended after so many steps
-    counts.differing = STEPS;
     counts
 }
 
-// A drawer, of a kind, at limits from the first up, some numbers apart.
+// A drawer, of a kind, at limits from the first up, some skipped after each.
 fn compare_limits(
     n: usize,
     d: usize,
     kind: u8,
     first: usize,
-    apart: usize,
+    skipped: usize,
     pattern: usize,
 ) -> Counts
-    requires { ⌜ 0 < n ⌝ }
     requires { ⌜ n ≤ 14 ⌝ }
-    requires { ⌜ 0 < apart ⌝ }
-    requires { ⌜ apart < 1000 ⌝ }
+    requires { ⌜ skipped < 1000 ⌝ }
 {
     let half = test_walks::book::half_of(n);
     let mut counts = nothing();
     let mut limit = first;
     while limit < 2 * half {
         counts = sum(counts, compare(n, half, d, kind, limit, pattern));
-        limit += apart;
+        limit += 1 + skipped;
     }
     counts
 }
 
 // All drawers of n stations, of both kinds.
-fn compare_drawers(n: usize, first: usize, apart: usize, pattern: usize) -> Counts
-    requires { ⌜ 0 < n ⌝ }
+fn compare_drawers(n: usize, first: usize, skipped: usize, pattern: usize) -> Counts
     requires { ⌜ n ≤ 14 ⌝ }
-    requires { ⌜ 0 < apart ⌝ }
-    requires { ⌜ apart < 1000 ⌝ }
+    requires { ⌜ skipped < 1000 ⌝ }
 {
     let mut counts = nothing();
     let mut d: usize = 0;
     while d <= n {
-        counts = sum(counts, compare_limits(n, d, 1, first, apart, pattern));
-        counts = sum(counts, compare_limits(n, d, 2, first, apart, pattern));
+        counts = sum(counts, compare_limits(n, d, 1, first, skipped, pattern));
+        counts = sum(counts, compare_limits(n, d, 2, first, skipped, pattern));
         d += 1;
     }
     counts
 }
 
 fn print_counts(n: usize, counts: Counts) {
-    test_rows::print_named(b"n ", n);
-    test_rows::print_named(b": walks ", counts.walks);
-    test_rows::print_named(b" rings ", counts.rings);
-    test_rows::print_named(b" trials ", counts.trials);
-    test_rows::print_named(b" spent ", counts.spent);
-    test_rows::print_named(b" differing ", counts.differing);
+    test_rows::print_filled(
+        b"n #: walks # rings # trials # spent # differing #\n",
+        &[
+            n,
+            counts.walks,
+            counts.rings,
+            counts.trials,
+            counts.spent,
+            counts.differing,
+        ],
+    );
+}
+
+// The lowest limit of n stations, or the one of ones.
+fn first_limit(n: usize, word: &[u8]) -> usize {
+    if cases::first_byte(word) == b'z' {
+        return 0;
+    }
+    2 * test_walks::book::half_of(n) - 1
+}
+
+// A line is a name, then stations from and to, the first limit, how many are skipped after each, and the pattern of allowances.
+fn show_drawers(line: &[u8]) {
+    let fields = cases::piece(line, b':', 1);
+    let to = cases::number_to(fields, 2, 14);
+    let skipped = cases::number_to(fields, 4, 999);
+    let pattern = cases::number(fields, 5);
+    io::write_all(1, cases::piece(line, b':', 0));
     io::write_all(1, b"\n");
-}
-
-// Walks at n ones, up to 14 stations.
-fn show_drawers() {
-    io::write_all(1, b"limit of ones, plenty allowed\n");
-    let mut n: usize = 1;
-    while n <= 14 {
-        let ones = 2 * test_walks::book::half_of(n) - 1;
-        print_counts(n, compare_drawers(n, ones, 1, 0));
+    let mut n = cases::number(fields, 1);
+    while n <= to {
+        let first = first_limit(n, cases::word(fields, 3));
+        print_counts(n, compare_drawers(n, first, skipped, pattern));
         n += 1;
     }
 }
 
-// Walks at all limits, up to 8 stations.
-fn show_limits(pattern: usize) {
-    let mut n: usize = 1;
-    while n <= 8 {
-        print_counts(n, compare_drawers(n, 0, 1, pattern));
-        n += 1;
+fn show(line: &[u8]) {
+    if b'9' < cases::first_byte(line) {
+        return show_drawers(line);
     }
+    shown::show(line);
 }
 
-// Walks at every 257th limit, from 9 to 14 stations.
-fn show_spread() {
-    io::write_all(1, b"every 257th limit, plenty allowed\n");
-    let mut n: usize = 9;
-    while n <= 14 {
-        print_counts(n, compare_drawers(n, 0, 257, 0));
-        n += 1;
+fn show_lines(text: &[u8]) {
+    let lines = test_rows::count(text, b'\n');
+    let mut i: usize = 0;
+    while i < lines {
+        show(cases::piece(text, b'\n', i));
+        i += 1;
     }
 }
 
 fn main() {
-    show_drawers();
-    show_spread();
-    io::write_all(1, b"all limits, plenty allowed\n");
-    show_limits(0);
-    io::write_all(1, b"all limits, always 1 allowed\n");
-    show_limits(1);
-    io::write_all(1, b"all limits, always 2 allowed\n");
-    show_limits(2);
-    io::write_all(1, b"all limits, always 3 allowed\n");
-    show_limits(3);
-    io::write_all(1, b"all limits, 0, 1, 2, 3 in turn allowed\n");
-    show_limits(4);
-    io::write_all(1, b"all limits, 0 three times, then plenty allowed\n");
-    show_limits(5);
-    shown::show_walks();
-    shown::show_refusals();
+    // drawers against the book, then single walks, then refused openings
+    show_lines(
+        b"limit of ones, plenty allowed: 1 14 ones 0 0\n\
+          every 257th limit, plenty allowed: 9 14 zeros 256 0\n\
+          all limits, plenty allowed: 1 8 zeros 0 0\n\
+          all limits, always 1 allowed: 1 8 zeros 0 1\n\
+          all limits, always 2 allowed: 1 8 zeros 0 2\n\
+          all limits, always 3 allowed: 1 8 zeros 0 3\n\
+          all limits, 0, 1, 2, 3 in turn allowed: 1 8 zeros 0 4\n\
+          all limits, 0 three times, then plenty allowed: 1 8 zeros 0 5\n\
+          6 3 1 111111\n\
+          8 3 1 11111111\n\
+          8 3 1 00011000\n\
+          8 3 1 00100100\n\
+          8 3 1 00000110\n\
+          4 2 2 0101\n\
+          2 0 2 11\n\
+          1 0 2 0\n\
+          1 1 2 1\n\
+          8 0 1 00000000\n\
+          64 0 1 1111111111111111111111111111111111111111111111111111111111111111\n\
+          64 1 2 1111111111111111111111111111111111111111111111111111111111111111\n\
+          64 2 2 0000000000000000000000000000000100000000000000000000000000000001\n\
+          64 63 1 1000000000000000000000000000000000000000000000000000000000000000\n\
+          64 64 1 1111111111111111111111111111111111111111111111111111111111111111\n\
+          64 64 2 1111111111111111111111111111111111111111111111111111111111111111\n\
+          0 0 1 \n\
+          65 0 1 \n\
+          65 0 1 00000000000000000000000000000000000000000000000000000000000000000\n\
+          0 1 3 2\n\
+          65 66 3 2\n\
+          4 5 1 0000\n\
+          4 5 3 00002\n\
+          4 3 0 1111\n\
+          4 3 3 1111\n\
+          4 3 255 00022\n\
+          4 3 1 111\n\
+          4 3 1 11111\n\
+          4 3 1 \n\
+          4 3 2 11112\n\
+          4 3 1 0200\n\
+          4 3 2 0232\n\
+          4 3 1 1112\n",
+    );
 }

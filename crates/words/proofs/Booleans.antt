@@ -1,7 +1,7 @@
 -- Tests put together.
 use mathlib.Core.Bool.{Bool, and-eq-true-iff, false, true, _&&_, _||_}
 use mathlib.Core.Logic.{inl, inr, _⊎_}
-use mathlib.Core.Path.{refl, sym, _≡_}
+use mathlib.Core.Path.{refl, sym, _∙_, _≡_}
 use Prim.Native.Nat.{ℕ}
 use native.Mathlib.Omega.{arith}
 
@@ -29,3 +29,10 @@ never false f = refl
 -- two constructors that are said to be equal: `cc` makes 0 ≡ 1 of it
 pub clash : {A : Type 0} → _≡_ {A = ℕ} 0 1 → A
 clash e = absurd (omega arith)
+
+-- what two tests come to, the second made only where the first holds
+pub and-yes : {a b f : Bool} → a ≡ true → f ≡ b → f ≡ (a && b)
+and-yes e g = rw e g
+
+pub and-no : {a f : Bool} (b : Bool) → a ≡ false → f ≡ a → f ≡ (a && b)
+and-no b e g = rw e (g ∙ e)

@@ -11,10 +11,11 @@ use borrow.Author.Tests.{eqb-false, eqb-true, ltb-false, ltb-true}
 use Rattle.words.proofs.Alphabet.{within-cons, within-nil}
 use Rattle.words.proofs.Below.{≺-irrefl}
 use Rattle.words.proofs.Bounded.{allBelow→, →allBelow}
-use Rattle.words.proofs.LeastRotation.{least-index}
+use Rattle.words.proofs.LeastRotation.{least-index, least-necklace, least-same, same-least}
 use Rattle.words.proofs.OrderTests.{→le}
 use Rattle.words.proofs.Periods.{period-of}
-use Rattle.words.specs.Claims.{FirstOther, LeastTurn, PlaceOfFirst, Shelved, SmallestPeriod, SmallestTurn, WithoutSymmetry}
+use Rattle.words.proofs.Rotations.{→isNecklace}
+use Rattle.words.specs.Claims.{FirstOther, KeyShelved, LeastTurn, OneKey, PlaceOfFirst, Shelved, SmallestPeriod, SmallestTurn, WithoutSymmetry}
 use Rattle.words.specs.Order.{le, lt}
 use Rattle.words.specs.Rotation.{isLyndon, isNecklace, leastIndex, leastRotation, rotation}
 use Rattle.words.specs.Symbols.{Within, firstWrong, later}
@@ -48,6 +49,14 @@ least-turn w j l = →le (rotation (leastIndex w) w) (rotation j w) (least-index
 pub smallest-turn : SmallestTurn
 unfolding leastRotation
 smallest-turn w h = let i = least-index w h in (i .inside, refl, λ j l e. ≺-irrefl (rw e at (i .first j l)))
+
+-- ---- keys
+
+pub key-shelved : KeyShelved
+key-shelved w h = →isNecklace (leastRotation w) (least-necklace w h)
+
+pub one-key : OneKey
+one-key v w h k = (same-least k h, least-same k)
 
 -- ---- symbols
 

@@ -36,10 +36,3 @@ cut x y p q e l = go (levi x y p q e)
     go : Cut p x y q ⊎ Cut x p q y → Cut p x y q
     go (inl k) = k
     go (inr k) = turned (k .r) (k .left) (k .right)
-
--- equally long beginnings of one row are equal, and so is what follows them
-pub same-cut : (x y p q : List ℕ) → x ++ y ≡ p ++ q → length x ≡ length p → (x ≡ p) × (y ≡ q)
-same-cut [] y [] q e l = (refl, e)
-same-cut [] y (d ∷ p) q e l = absurd (omega arith)
-same-cut (c ∷ x) y [] q e l = absurd (omega arith)
-same-cut (c ∷ x) y (d ∷ p) q e l = let k = same-cut x y p q (cc) (omega arith) in let h : c ≡ d = cc in (cc (h, k .0), k .1)

@@ -24,23 +24,6 @@ pub ext-right : {a b : List ℕ} → _≪_ a b → (v : List ℕ) → a ≺ (b +
 ext-right (at-head h) v = here h
 ext-right (in-tail h) v = there (ext-right h v)
 
--- the common beginning, the two symbols, and what follows them
-pub record Differ (a b : List ℕ) : Type 0 where
-  pub p : List ℕ
-  pub x : ℕ
-  pub y : ℕ
-  pub a′ : List ℕ
-  pub b′ : List ℕ
-  pub lt : x < y
-  pub left : a ≡ p ++ (x ∷ a′)
-  pub right : b ≡ p ++ (y ∷ b′)
-
-pub differ : {a b : List ℕ} → _≪_ a b → Differ a b
-differ (at-head {x = x} {y = y} {xs = xs} {ys = ys} h) = record { p = []; x = x; y = y; a′ = xs; b′ = ys; lt = h; left = refl; right = refl }
-differ (in-tail {x = z} h) =
-    let d = differ h in
-    record { p = z ∷ d .p; x = d .x; y = d .y; a′ = d .a′; b′ = d .b′; lt = d .lt; left = ap {B = List ℕ} (λ w. z ∷ w) (d .left); right = ap {B = List ℕ} (λ w. z ∷ w) (d .right) }
-
 -- b is a with more behind it
 pub record More (a b : List ℕ) : Type 0 where
   pub c : ℕ

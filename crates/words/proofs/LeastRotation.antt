@@ -12,10 +12,10 @@ use Rattle.words.proofs.Booleans.{never}
 use Rattle.words.proofs.Bounded.{allBelow→, first-is, pred-size, →allBelow}
 use Rattle.words.proofs.OrderTests.{le→, →le}
 use Rattle.words.proofs.PowerOrder.{Necklace}
-use Rattle.words.proofs.RotationAgain.{IsRotation, rotation-sym, rotation-trans}
+use Rattle.words.proofs.RotationAgain.{rotation-sym, rotation-trans}
 use Rattle.words.proofs.Rotations.{index→necklace, necklace→index, rotation-length}
 use Rattle.words.specs.Order.{le}
-use Rattle.words.specs.Rotation.{isLeastAt, leastIndex, leastRotation, rotation}
+use Rattle.words.specs.Rotation.{IsRotation, isLeastAt, leastIndex, leastRotation, rotation}
 
 -- ---- the least of the first k rotations, at its first place
 

@@ -3,8 +3,7 @@ use mathlib.Core.Bool.{Bool, and-eq-true-iff, false, true, true≢false, _&&_}
 use mathlib.Core.List.{List, _++_, _∷_}
 use mathlib.Core.Logic.{inl, inr, _⊎_}
 use mathlib.Core.Path.{ap, refl, sym, _∙_, _≡_}
-use Prim.Native.Nat.{pred, suc, zero, ℕ, _%_, _*_, _+_, _-_, _/_, _<_, _≤_}
-use native.Mathlib.Nat.{div-add-mod', mod-lt, zero-mul}
+use Prim.Native.Nat.{pred, ℕ, _+_, _-_, _<_, _≤_}
 use native.Mathlib.Omega.{arith}
 use lib.Dec.{eqb}
 use lib.ListN.{drop, length, length-append, length-drop, take}
@@ -17,8 +16,7 @@ use Rattle.words.proofs.Bounded.{FirstOf, first-is, first-of, pred-size
 use Rattle.words.proofs.Lyndon.{Lyndon, lyndon-of, lyndon-size, rotations→suffixes, suffix}
 use Rattle.words.proofs.OrderTests.{same→, →same}
 use Rattle.words.proofs.PowerOrder.{Necklace, lyndon→necklace}
-use Rattle.words.proofs.RotationAgain.{fixed-rotation, rotation-again, rotation-fixed}
-use Rattle.words.proofs.Rotations.{isLyndon→, isNecklace→, rotation-length, rotation-parts, rotation-seam, rotation-whole, rotation-zero, →isLyndon, →isNecklace}
+use Rattle.words.proofs.Rotations.{isLyndon→, isNecklace→, rotation-parts, rotation-seam, rotation-whole, →isLyndon, →isNecklace}
 use Rattle.words.specs.Order.{same}
 use Rattle.words.specs.Rotation.{isLyndon, isNecklace, period, rotation}
 
@@ -55,52 +53,6 @@ period-of w h = record { low = f .low; high = omega (arith, f .high); back = bac
 
     before : (i : ℕ) → 1 ≤ i → i < period w → rotation i w ≡ w → ⊥
     before i a l e = true≢false (sym (→same (rotation i w) w e) ∙ f .before i a l)
-
--- rotations of one row have one period
-pub period-rotated : (w : List ℕ) (j : ℕ) → 0 < length w → j ≤ length w → period (rotation j w) ≡ period w
-period-rotated w j h l =
-    let m = period-of w h in
-    let n = rotation-length j w in
-    period-is (rotation j w) (period w) (record {
-      low = m .low;
-      high = omega (arith, m .high);
-      back = fixed-rotation w (period w) j (m .high) l (m .back);
-      before = λ i a b e. m .before i a b (rotation-fixed w i j (omega (arith, m .high)) l e);
-    })
-
--- ---- the period divides the length
-
--- a rotation that gives the row back does so as often as it fits
-multiple : (w : List ℕ) (p : ℕ) → rotation p w ≡ w → (k : ℕ) → k * p ≤ length w → rotation (k * p) w ≡ w
-multiple w p e zero h = rw zero-mul (rotation-zero w)
-multiple w p e (suc k) h =
-    let s : suc k * p ≡ p + k * p = omega arith in
-    rw s (sym (rotation-again w (k * p) p (omega arith)) ∙ ap (rotation (k * p)) e ∙ multiple w p e k (omega arith))
-
-pub divides-length : (w : List ℕ) → 0 < length w → length w % period w ≡ 0
-divides-length w h = go (le-or r 0)
-  where
-    m : PeriodOf w (period w)
-    m = period-of w h
-
-    k : ℕ
-    k = length w / period w
-
-    r : ℕ
-    r = length w % period w
-
-    parts : k * period w + r ≡ length w
-    parts = div-add-mod' (length w) (period w)
-
-    less : r < period w
-    less = mod-lt (length w) (omega (arith, m .low))
-
-    rest : rotation r w ≡ w
-    rest = ap (rotation r) (sym (multiple w (period w) (m .back) k (omega (arith, parts)))) ∙ rotation-again w r (k * period w) (omega (arith, parts)) ∙ rotation-whole (k * period w + r) w (omega (arith, parts))
-
-    go : (r ≤ 0) ⊎ (0 < r) → r ≡ 0
-    go (inl l) = omega arith
-    go (inr l) = absurd (m .before r l less rest)
 
 -- ---- Lyndon words
 

@@ -9,7 +9,7 @@ use lib.ListN.{drop, length, length-drop, take, take-append-drop}
 use lib.Seq.{drop-append-add, drop-append-le, drop-drop, length-take-le, take-add, take-append-add, take-append-le, take-take}
 use Rattle.words.proofs.Below.{le-or}
 use Rattle.words.proofs.Rotations.{rotation-length, rotation-whole, rotation-zero}
-use Rattle.words.specs.Rotation.{rotation}
+use Rattle.words.specs.Rotation.{IsRotation, rotation}
 
 module _ (w : List ℕ) (i j : ℕ) where
   -- short of the row's end
@@ -32,12 +32,6 @@ module _ (w : List ℕ) (i j : ℕ) where
       (sym (append-assoc (drop k (take j w)) (drop j w) (take k w)) ∙ ap (λ r. r ++ take k w) whole)
 
 -- ---- the rotations of a row
-
--- v is one of the rotations of w
-pub record IsRotation (w v : List ℕ) : Type 0 where
-  pub by : ℕ
-  pub inside : by < length w
-  pub is : v ≡ rotation by w
 
 -- the rotation of a rotation, with its number
 pub rotated : (w : List ℕ) (i j : ℕ) → i < length w → j < length w → IsRotation w (rotation i (rotation j w))

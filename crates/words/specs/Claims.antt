@@ -6,7 +6,7 @@ use mathlib.Core.Path.{_≡_}
 use Prim.Native.Nat.{ℕ, suc, _≤_, _<_}
 use lib.ListN.{length, getD}
 use Rattle.words.specs.Order.{le, lt}
-use Rattle.words.specs.Rotation.{isLyndon, isNecklace, leastIndex, leastRotation, period, rotation}
+use Rattle.words.specs.Rotation.{IsRotation, isLyndon, isNecklace, leastIndex, leastRotation, period, rotation}
 use Rattle.words.specs.Symbols.{Within, firstWrong}
 
 -- ---- turns
@@ -34,6 +34,14 @@ abbrev pub SmallestTurn : Type 0
 SmallestTurn =
     (w : List ℕ) → 0 < length w
     → (leastIndex w < length w) × (rotation (leastIndex w) w ≡ leastRotation w) × ((j : ℕ) → j < leastIndex w → rotation j w ≡ leastRotation w → ⊥)
+
+-- the key is shelved
+abbrev pub KeyShelved : Type 0
+KeyShelved = (w : List ℕ) → 0 < length w → isNecklace (leastRotation w) ≡ true
+
+-- one ring, one key: rows have the same key exactly when one is a turn of the other
+abbrev pub OneKey : Type 0
+OneKey = (v w : List ℕ) → 0 < length v → 0 < length w → (leastRotation v ≡ leastRotation w) ↔ IsRotation w v
 
 -- ---- symbols
 

@@ -1,7 +1,8 @@
 -- Rotations, necklaces, Lyndon words, the period and the least rotation, over any alphabet.
 use mathlib.Core.Bool.{Bool, cond, false}
 use mathlib.Core.List.{List, [], _∷_, _++_}
-use Prim.Native.Nat.{ℕ, suc, pred}
+use mathlib.Core.Path.{_≡_}
+use Prim.Native.Nat.{ℕ, suc, pred, _<_}
 use lib.ListN.{length, take, drop}
 use Rattle.words.specs.Order.{lt, le, same}
 use Rattle.words.specs.Tests.{allBelow, firstFrom}
@@ -9,6 +10,12 @@ use Rattle.words.specs.Tests.{allBelow, firstFrom}
 -- "Turn j": reads from place j + 1 to the end, then places 1 to j.
 unfoldable pub rotation : ℕ → List ℕ → List ℕ
 rotation j w = drop j w ++ take j w
+
+-- v is one of the turns of w
+pub record IsRotation (w v : List ℕ) : Type 0 where
+  pub by : ℕ
+  pub inside : by < length w
+  pub is : v ≡ rotation by w
 
 -- "Shelved": at or below all its turns.
 unfoldable pub isNecklace : List ℕ → Bool

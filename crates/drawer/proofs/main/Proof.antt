@@ -6,7 +6,7 @@ use native.Mathlib.Omega.{arith}
 use lib.ListN.{length}
 use lib.Seq.{length-take-le}
 use borrow.Author.Needs.{needs}
-use Rattle.printing.proofs.Pieces.{less-left}
+use Rattle.printing.proofs.Claims.{less-left}
 use Rattle.printing.specs.Left.{left}
 use Rattle.drawer.proofs.main.Statement.{statement}
 use Rattle.drawer.proofs.main.Tie as tie

@@ -70,8 +70,8 @@ prefixes-of-requires c κs = short (c .before .before .before)
 read-requires : tie.Need-read-requires
 read-requires c κs = let p = c .before .before in (short (p .before .before .before), right (p .before), c .before .prefixes-of .ensures)
 
-begins-requires : tie.Need-begins-requires
-begins-requires c κs =
+ask-requires : tie.Need-ask-requires
+ask-requires c κs =
     let p = c .before .before .before in
     let f = p .before .before in
     let b = f .before in
@@ -92,7 +92,7 @@ returns-5 c =
     let b = f .before in
     let a = b .before .before .before .before .before .args in
     rw (ask-accepted (a .n) (a .d) (a .prefix .now) (sized (b .before .before)) (b .before .if2 .left) (b .if3 .left) (sym (f .first-wrong .ensures) ∙ p .before .if4 .left))
-    (ap given (c .«begins» .ensures ∙ ap (begins (a .n) (a .d)) (begins-so (a .prefix .now) _ (p .padded .ensures))))
+    (ap given (c .ask .ensures ∙ ap (begins (a .n) (a .d)) (begins-so (a .prefix .now) _ (p .padded .ensures))))
 
 pub ask-spec : {M : Type 1} → statement M
-ask-spec = tie.close (tie.spec (λ c κs. search needs) returns returns-2 returns-3 (λ c κs. search needs) returns-4 padded-requires prefixes-of-requires read-requires begins-requires returns-5)
+ask-spec = tie.close (tie.spec (λ c κs. search needs) returns returns-2 returns-3 (λ c κs. search needs) returns-4 padded-requires prefixes-of-requires read-requires ask-requires returns-5)

@@ -5,7 +5,7 @@ use Rattle.prefix_test.proofs.compare_all.Statement.{statement}
 use Rattle.prefix_test.proofs.compare_all.Tie as tie
 
 abbrev Inv-loop : tie.InvT-loop
-Inv-loop n₀ n = (1 ≤ n) × (n ≤ 11)
+Inv-loop n₀ n = n ≤ 11
 
 abbrev μ-loop : tie.MeasureT-loop
 μ-loop n₀ n = 11 - n

@@ -1,14 +1,14 @@
--- `prefix_test::mark` is safe and ends: the number is halved.
+-- `prefix_test::mark` is safe and ends.
 use Prim.Native.Nat.{_<_}
 use borrow.Author.Needs.{needs}
 use Rattle.prefix_test.proofs.mark.Statement.{statement}
 use Rattle.prefix_test.proofs.mark.Tie as tie
 
 abbrev Inv-loop : tie.InvT-loop
-Inv-loop marks₀ number d rest₀ marks rest = rest < 2048
+Inv-loop marks₀ n number d rest₀ marks rest = rest < 2048
 
 abbrev μ-loop : tie.MeasureT-loop
-μ-loop marks₀ number d rest₀ marks rest = rest
+μ-loop marks₀ n number d rest₀ marks rest = rest
 
 pub mark-spec : {M : Type 1} → statement M
 mark-spec =
@@ -16,6 +16,13 @@ mark-spec =
     (tie.spec
     Inv-loop
     μ-loop
+    (λ c κs. search needs)
+    (λ c κs. search needs)
+    (λ c. search needs)
+    (λ c κs. search needs)
+    (λ c. search needs)
+    (λ c. search needs)
+    (λ c κs. search needs)
     (λ c. search needs)
     (λ c. search needs)
     (λ c. search needs)

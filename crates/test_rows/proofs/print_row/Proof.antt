@@ -1,15 +1,14 @@
 -- `test_rows::print_row` is safe and ends.
 use Prim.Native.Nat.{_≤_, _-_}
-use lib.ListN.{length}
 use borrow.Author.Needs.{needs}
 use Rattle.test_rows.proofs.print_row.Statement.{statement}
 use Rattle.test_rows.proofs.print_row.Tie as tie
 
 abbrev Inv-loop : tie.InvT-loop
-Inv-loop n row i₀ t4 i = i ≤ length row
+Inv-loop n row i₀ i = i ≤ n
 
 abbrev μ-loop : tie.MeasureT-loop
-μ-loop n row i₀ t4 i = length row - i
+μ-loop n row i₀ i = n - i
 
 pub print-row-spec : {M : Type 1} → statement M
 print-row-spec =

@@ -1,8 +1,5 @@
 -- `walk_test::compare` is safe and ends.
-use mathlib.Core.Path.{sym}
 use Prim.Native.Nat.{_≤_, _<_, _*_, _-_}
-use native.Mathlib.Omega.{arith}
-use lib.Seq.{length-take-le}
 use borrow.Author.Needs.{needs}
 use Rattle.walk_test.proofs.compare.Statement.{statement}
 use Rattle.walk_test.proofs.compare.Tie as tie
@@ -13,9 +10,6 @@ Inv-loop n half d kind limit pattern w₀ book₀ counts₀ i₀ w book counts i
 abbrev μ-loop : tie.MeasureT-loop
 μ-loop n half d kind limit pattern w₀ book₀ counts₀ i₀ w book counts i = 20000 - i
 
-slice-aggregate-open : tie.Need-slice-aggregate-open Inv-loop μ-loop
-slice-aggregate-open c = sym (length-take-le _ _ (omega arith))
-
 pub compare-spec : {M : Type 1} → statement M
 compare-spec =
     tie.close
@@ -24,7 +18,7 @@ compare-spec =
     μ-loop
     (λ c κs. search needs)
     (λ c. search needs)
-    slice-aggregate-open
+    (λ c κs. search needs)
     (λ c κs. search needs)
     (λ c κs. search needs)
     (λ c κs. search needs)

@@ -5,10 +5,10 @@ use Rattle.walk_test.proofs.compare_drawers.Statement.{statement}
 use Rattle.walk_test.proofs.compare_drawers.Tie as tie
 
 abbrev Inv-loop : tie.InvT-loop
-Inv-loop n first apart pattern counts₀ d₀ counts d = d ≤ n + 1
+Inv-loop n first skipped pattern counts₀ d₀ counts d = d ≤ n + 1
 
 abbrev μ-loop : tie.MeasureT-loop
-μ-loop n first apart pattern counts₀ d₀ counts d = n + 1 - d
+μ-loop n first skipped pattern counts₀ d₀ counts d = n + 1 - d
 
 pub compare-drawers-spec : {M : Type 1} → statement M
 compare-drawers-spec =

@@ -5,10 +5,10 @@ use Rattle.walk_test.proofs.compare_limits.Statement.{statement}
 use Rattle.walk_test.proofs.compare_limits.Tie as tie
 
 abbrev Inv-loop : tie.InvT-loop
-Inv-loop n d kind first apart pattern half counts₀ limit₀ counts limit = 0 ≤ limit
+Inv-loop n d kind first skipped pattern half counts₀ limit₀ counts limit = 0 ≤ limit
 
 abbrev μ-loop : tie.MeasureT-loop
-μ-loop n d kind first apart pattern half counts₀ limit₀ counts limit = 2 * half - limit
+μ-loop n d kind first skipped pattern half counts₀ limit₀ counts limit = 2 * half - limit
 
 pub compare-limits-spec : {M : Type 1} → statement M
 compare-limits-spec =
@@ -22,6 +22,7 @@ compare-limits-spec =
     (λ c. search needs)
     (λ c κs. search needs)
     (λ c κs. search needs)
+    (λ c. search needs)
     (λ c. search needs)
     (λ c. search needs)
     (λ c. search needs)

@@ -1,4 +1,4 @@
--- `gaps_test::lists::count_fresh_gaps` is safe and ends: it counts at most the numbers passed.
+-- `gaps_test::lists::count_fresh_gaps` is safe and ends.
 use Prim.Native.Nat.{_≤_, _-_}
 use borrow.Author.Needs.{needs}
 use Rattle.gaps_test.proofs.lists.count_fresh_gaps.Statement.{statement}

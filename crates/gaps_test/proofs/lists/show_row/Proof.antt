@@ -5,25 +5,24 @@ use borrow.Author.Needs.{needs}
 use Rattle.gaps_test.proofs.lists.show_row.Statement.{statement}
 use Rattle.gaps_test.proofs.lists.show_row.Tie as tie
 
-slice-aggregate-row-of-gaps : tie.Need-slice-aggregate-row-of-gaps
-slice-aggregate-row-of-gaps c = simp length-take (omega arith)
-
 pub show-row-spec : {M : Type 1} → statement M
 show-row-spec =
     tie.close
     (tie.spec
-    (λ c. search needs)
-    slice-aggregate-row-of-gaps
     (λ c κs. search needs)
-    (λ c. search needs)
     (λ c κs. search needs)
-    (λ c. search needs)
-    (λ c κs. search needs)
-    (λ c. search needs)
     (λ c κs. search needs)
     (λ c κs. search needs)
     (λ c. search needs)
+    (λ c. simp length-take (omega arith))
+    (λ c. search needs)
+    (λ c. simp length-take (omega arith))
     (λ c κs. search needs)
+    (λ c. search needs)
+    (λ c. search needs)
+    (λ c κs. search needs)
+    (λ c κs. search needs)
+    (λ c. search needs)
     (λ c. search needs)
     (λ c κs. search needs)
     (λ c κs. search needs)

@@ -5,7 +5,7 @@ use Rattle.necklace_test.proofs.all_rows.first_same.Statement.{statemen
 use Rattle.necklace_test.proofs.all_rows.first_same.Tie as tie
 
 abbrev Inv-loop : tie.InvT-loop
-Inv-loop row n p₀ p = p ≤ n
+Inv-loop row n p₀ p = 1 ≤ p
 
 abbrev μ-loop : tie.MeasureT-loop
 μ-loop row n p₀ p = n - p

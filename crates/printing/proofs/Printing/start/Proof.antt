@@ -2,7 +2,7 @@
 use mathlib.Core.Path.{ap, refl, sym, _∙_, _≡_}
 use lib.ListN.{length}
 use borrow.Author.Needs.{needs}
-use Rattle.drawer_text.specs.Input.{requestOutcome}
+use Rattle.drawer_input.specs.Input.{requestOutcome}
 use Rattle.printing.proofs.Reading.{drawer-asked, drawer-room, refused-asked}
 use Rattle.printing.proofs.Printing.start.Statement.{statement}
 use Rattle.printing.proofs.Printing.start.Tie as tie

@@ -3,7 +3,7 @@ use mathlib.Core.Bool.{true}
 use mathlib.Core.Path.{refl}
 use Prim.Native.Nat.{_≤_}
 use borrow.Author.Needs.{needs}
-use Rattle.drawer_text.specs.Lines.{endLine}
+use Rattle.drawer_lines.specs.Lines.{endLine}
 use Rattle.printing.proofs.LineLengths.{end-short, puts-line}
 use Rattle.printing.specs.Left.{highest64}
 use Rattle.printing.specs.InnerNextLine.{lastLine, printing}

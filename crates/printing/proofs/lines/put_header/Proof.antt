@@ -3,7 +3,7 @@ use mathlib.Core.Bool.{false}
 use mathlib.Core.Path.{refl}
 use native.Mathlib.Omega.{arith}
 use borrow.Author.Needs.{needs}
-use Rattle.drawer_text.specs.Lines.{header}
+use Rattle.drawer_lines.specs.Lines.{header}
 use Rattle.printing.proofs.LineLengths.{puts-line}
 use Rattle.printing.specs.InnerNextLine.{lineThen, printing}
 use Rattle.printing.specs.declared.Due.the-variants.{Rings}

@@ -113,13 +113,13 @@ array-write-row c = let l = c .before .before in let v = l .loop .inv in omega (
 array-share-prefix-row : tie.Need-array-share-prefix-row Inv-loop μ-loop
 array-share-prefix-row c = rw length-set (fits-in (c .before .before .loop .inv) (c .before .loop-test .taken))
 
-slice-aggregate-begins-with-one : tie.Need-slice-aggregate-begins-with-one Inv-loop μ-loop
-slice-aggregate-begins-with-one c =
+slice-aggregate-ask-with-one : tie.Need-slice-aggregate-ask-with-one Inv-loop μ-loop
+slice-aggregate-ask-with-one c =
     let l = c .before .before .before in
     sym (tried-length (l .loop .row) (l .loop .p) 1 (fits-in (l .loop .inv) (c .before .before .loop-test .taken)))
 
-begins-with-one-requires : tie.Need-begins-with-one-requires Inv-loop μ-loop
-begins-with-one-requires c κs =
+ask-with-one-requires : tie.Need-ask-with-one-requires Inv-loop μ-loop
+ask-with-one-requires c κs =
     let l = c .before .before .before in
     let v = l .loop .inv in
     let q = asks-up v (c .before .before .loop-test .taken) in
@@ -133,7 +133,7 @@ turn c =
     let v = l .loop .inv in
     let h = c .before .before .before .before .loop-test .taken in
     let k = pos-of-ne-zero (c .before .before .before .if1 .left) in
-    let q = c .before .begins-with-one .ensures in
+    let q = c .before .ask-with-one .ensures in
     ⊎-elim
     (λ w. rw (w .1, set-set (l .loop .row) (l .loop .p - 1) 1 0) (record { b = false; is = refl; comes = tried v h false k (answer-is v h _ false q (not-true _ (w .0 .taken))) }))
     (λ w. rw (w .1) (record { b = true; is = refl; comes = tried v h true k (answer-is v h _ true q (not-false _ (w .0 .left))) }))
@@ -180,8 +180,8 @@ ascend-spec =
     sub-i
     array-write-row
     array-share-prefix-row
-    slice-aggregate-begins-with-one
-    begins-with-one-requires
+    slice-aggregate-ask-with-one
+    ask-with-one-requires
     (λ c. search needs)
     array-share-prefix-row-2
     slice-aggregate-longer

@@ -125,8 +125,8 @@ slice-aggregate-longer c = let l = c .before .before .before .before in sym (tri
 longer-requires : tie.Need-longer-requires Inv-loop μ-loop
 longer-requires c κs = asks-longer (c .before .before .before .before .loop .inv) (c .before .before .before .loop-test .taken)
 
-begins-requires : tie.Need-begins-requires Inv-loop μ-loop
-begins-requires c κs =
+ask-requires : tie.Need-ask-requires Inv-loop μ-loop
+ask-requires c κs =
     let v = c .before .before .before .before .before .loop .inv in
     let h = c .before .before .before .before .loop-test .taken in
     (v .comes .good .sound .some, few v, v .comes .good .sound .dense, inside v, tried-symbols v h, c .longer .ensures)
@@ -140,7 +140,7 @@ module _ (c : tie.Then3 Inv-loop μ-loop) where
   came =
       let v = here .loop .inv in
       let h = c .before .before .before .before .before .before .loop-test .taken in
-      on-yes v h (c .before .before .before .before .before .if1 .taken) (pos-of-ne-zero (c .before .before .before .before .if2 .left)) (answer-is v h _ true (c .before .«begins» .ensures) (c .if3 .taken))
+      on-yes v h (c .before .before .before .before .before .if1 .taken) (pos-of-ne-zero (c .before .before .before .before .if2 .left)) (answer-is v h _ true (c .before .ask .ensures) (c .if3 .taken))
 
 add-ascend : tie.Need-add-ascend Inv-loop μ-loop
 add-ascend c = let v = here c .loop .inv in omega (arith, inside v, few v)
@@ -209,7 +209,7 @@ descend-spec =
     array-share-prefix-row
     slice-aggregate-longer
     longer-requires
-    begins-requires
+    ask-requires
     add-ascend
     add-ascend-2
     ascend-requires

@@ -1,13 +1,16 @@
 -- `walk::Walk::fit_at` meets its contract.
+use mathlib.Core.Bool.{_&&_, true}
+use mathlib.Core.Logic.{⊎-elim}
 use mathlib.Core.Path.{refl, subst, sym, _∙_, _≡_}
 use Prim.Native.Nat.{_≤_}
 use native.Mathlib.Omega.{arith}
+use lib.Dec.{leb}
 use lib.ListN.{length, take}
 use lib.Seq.{length-take-le}
 use borrow.Author.Needs.{needs}
-use borrow.Author.Tests.{not-false, not-true}
+use borrow.Author.Tests.{le-leb, leb-true, lt-leb}
 use Rattle.prefix.specs.InnerCarried.{Knows}
-use Rattle.walk.proofs.FitCases.{at-down, at-down-to, at-ended, at-given, at-given-not, at-up, at-up-high, at-up-low, fit-as, is-necklace}
+use Rattle.walk.proofs.FitCases.{at-down, at-ended, at-given, at-up, fit-as, is-necklace}
 use Rattle.walk.proofs.Walk.fit_at.Statement.{statement}
 use Rattle.walk.specs.InnerCourse.{before}
 use Rattle.walk.specs.Fit.{fitAt}
@@ -15,6 +18,7 @@ use Rattle.walk.specs.Moves.{rowOf}
 use Rattle.walk.specs.declared.Standing.{Standing}
 use Rattle.walk.specs.declared.Standing.the-variants.{Down, Ended, Given, Limit, Up}
 use Rattle.words.proofs.Alphabet.{within-take}
+use Rattle.words.proofs.Booleans.{and-no, and-yes, and→}
 use Rattle.walk.proofs.Walk.fit_at.Tie as tie
 
 module _ (s : tie.Start) where
@@ -31,19 +35,49 @@ module _ (s : tie.Start) where
       (s .pre .1 (subst (λ t. before t (s .args .self .n) ≤ s .args .self .n) (sym e) h))
 
 returns : tie.Need-returns
-returns c = fit-as _ (Down _) (c .before .before .at .given .1) (sym (at-down _ _ (c .if1 .taken)))
+unfolding fitAt
+returns c = fit-as _ Limit (c .enum-told .given .1) refl
 
+-- Down
 returns-2 : tie.Need-returns-2
-returns-2 c = fit-as _ (Up _) (c .before .before .at2 .given .1) (sym (at-up-low _ _ (c .if2 .taken)))
+returns-2 c = fit-as _ (Down _) (c .before .before .at .given .1) (and-yes (le-leb 1 _ (c .if1 .taken)) refl ∙ at-down _ _)
 
 returns-3 : tie.Need-returns-3
-returns-3 c = fit-as _ (Up _) (c .before .before .before .at2 .given .1) (sym (at-up-high _ _ (c .before .if2 .left) (c .if3 .taken)))
+returns-3 c = fit-as _ (Down _) (c .before .before .at .given .1) (and-no (leb (c .before .before .at .given .0 .0) (c .before .before .before .before .before .args .self .n)) (lt-leb 1 _ (c .if1 .left)) refl ∙ at-down _ _)
 
-begins-requires : tie.Need-begins-requires
-begins-requires c κs =
-    let s = c .before .before .before .before .before .before in
+-- Up: the place is within the row
+placed : (c : tie.Joined2) → c .if2 .if3 ≡ (leb 2 (c .before .before .at2 .given .0 .0) && leb (c .before .before .at2 .given .0 .0) (c .before .before .before .before .before .args .self .n))
+placed c = ⊎-elim (λ q. and-yes (le-leb 2 _ (q .0 .taken)) (q .1)) (λ q. and-no _ (lt-leb 2 _ (q .0 .left)) (q .1)) (c .if2 .came)
+
+within : (c : tie.Joined2) → c .if2 .if3 ≡ true → (2 ≤ c .before .before .at2 .given .0 .0) × (c .before .before .at2 .given .0 .0 ≤ c .before .before .before .before .before .args .self .n)
+within c e =
+    let p = c .before .before .at2 .given .0 .0 in
+    let n = c .before .before .before .before .before .args .self .n in
+    let t = and→ (leb 2 p) (leb p n) (sym (placed c) ∙ e) in
+    (leb-true 2 p (t .0), leb-true p n (t .1))
+
+sub-ask : tie.Need-sub-ask
+sub-ask c = omega (arith, within (c .before) (c .if3 .taken) .0)
+
+ask-requires : tie.Need-ask-requires
+ask-requires c κs =
+    let j = c .before in
+    let s = j .before .before .before .before .before in
     let f = s .pre .0 in
-    (f .some, f .most, f .dense, omega (arith, c .if3 .left), f .symbols, known-at s (Up _) (c .before .before .before .at2 .given .1) (omega (arith, c .if3 .left)))
+    let l = within j (c .if3 .taken) .1 in
+    (f .some, f .most, f .dense, omega (arith, l), f .symbols, known-at s (Up _) (j .before .before .at2 .given .1) (omega (arith, l)))
+
+returns-4 : tie.Need-returns-4
+returns-4 c =
+    let j = c .before .before in
+    fit-as _ (Up _) (j .before .before .at2 .given .1) (and-yes (sym (placed j) ∙ c .before .if3 .taken) (c .ask .ensures) ∙ at-up _ _)
+
+returns-5 : tie.Need-returns-5
+returns-5 c = let j = c .before in fit-as _ (Up _) (j .before .before .at2 .given .1) (and-no _ (sym (placed j) ∙ c .if3 .left) (placed j) ∙ at-up _ _)
+
+-- Given: the whole row is known
+known-row : (c : tie.After-enum-told2) → Knows (rowOf (c .before .before .before .args .self)) (c .before .before .before .args .known)
+known-row c = let s = c .before .before .before in known-at s Given (c .enum-told2 .given .1) (omega arith)
 
 array-share-prefix-row : tie.Need-array-share-prefix-row
 array-share-prefix-row c = inside (c .before .before .before)
@@ -51,17 +85,10 @@ array-share-prefix-row c = inside (c .before .before .before)
 slice-aggregate-is-necklace-of : tie.Need-slice-aggregate-is-necklace-of
 slice-aggregate-is-necklace-of c = sym (whole (c .before .before .before .before))
 
--- the whole row is known
-known-row : (c : tie.After-enum-told2) → Knows (rowOf (c .before .before .before .args .self)) (c .before .before .before .args .known)
-known-row c = let s = c .before .before .before in known-at s Given (c .enum-told2 .given .1) (omega arith)
-
 is-necklace-of-requires : tie.Need-is-necklace-of-requires
 is-necklace-of-requires c κs =
     let s = c .before .before .before .before in
     (omega (arith, whole s, s .pre .0 .some), within-take (s .args .self .n) (s .args .self .row) (s .pre .0 .symbols), known-row (c .before))
-
-returns-4 : tie.Need-returns-4
-returns-4 c = fit-as _ Given (c .before .before .before .enum-told2 .given .1) (sym (at-given-not _ (sym (c .before .is-necklace-of .ensures) ∙ not-true _ (c .if4 .taken))))
 
 array-share-prefix-row-2 : tie.Need-array-share-prefix-row-2
 array-share-prefix-row-2 c = inside (c .before .before .before .before .before .before)
@@ -72,25 +99,20 @@ slice-aggregate-is-of-kind c = sym (whole (c .before .before .before .before .be
 is-of-kind-requires : tie.Need-is-of-kind-requires
 is-of-kind-requires c κs =
     let s = c .before .before .before .before .before .before .before in
-    (omega (arith, whole s, s .pre .0 .some), is-necklace (s .args .self .d) _ (sym (c .before .before .is-necklace-of .ensures) ∙ not-false _ (c .before .if4 .left)), known-row (c .before .before .before .before))
-
-returns-5 : tie.Need-returns-5
-unfolding fitAt
-returns-5 c = fit-as _ Limit (c .enum-told .given .1) refl
+    (omega (arith, whole s, s .pre .0 .some), is-necklace (s .args .self .d) _ (sym (c .before .before .is-necklace-of .ensures) ∙ c .before .if4 .taken), known-row (c .before .before .before .before))
 
 returns-6 : tie.Need-returns-6
-returns-6 c = fit-as _ (Down _) (c .before .before .at .given .1) (at-down-to _ _ (c .if1 .left))
+returns-6 c =
+    let n = c .before .before .before in
+    fit-as _ Given (n .before .before .enum-told2 .given .1) (and-yes (sym (n .is-necklace-of .ensures) ∙ c .before .before .if4 .taken) (c .is-of-kind .ensures) ∙ at-given _)
 
 returns-7 : tie.Need-returns-7
-returns-7 c = fit-as _ (Up _) (c .before .before .before .before .at2 .given .1) (c .«begins» .ensures ∙ at-up _ _ (c .before .before .if2 .left) (c .before .if3 .left))
+returns-7 c =
+    let n = c .before in
+    fit-as _ Given (n .before .before .enum-told2 .given .1) (and-no _ (sym (n .is-necklace-of .ensures) ∙ c .if4 .left) (n .is-necklace-of .ensures) ∙ at-given _)
 
 returns-8 : tie.Need-returns-8
-returns-8 c =
-    fit-as _ Given (c .before .before .before .before .before .enum-told2 .given .1)
-    (c .is-of-kind .ensures ∙ at-given _ (sym (c .before .before .before .is-necklace-of .ensures) ∙ not-false _ (c .before .before .if4 .left)))
-
-returns-9 : tie.Need-returns-9
-returns-9 c = fit-as _ Ended (c .before .before .enum-told3 .given .1) (at-ended _ (c .highest .result) (c .highest .ensures))
+returns-8 c = fit-as _ Ended (c .before .before .enum-told3 .given .1) (at-ended _ (c .highest .result) (c .highest .ensures))
 
 pub fit-at-spec : {M : Type 1} → statement M
 fit-at-spec =
@@ -98,25 +120,24 @@ fit-at-spec =
     (tie.spec
     (λ c. search needs)
     (λ c. search needs)
-    returns
     (λ c. search needs)
-    returns-2
-    returns-3
-    (λ c. search needs)
-    begins-requires
+    sub-ask
+    ask-requires
     (λ c. search needs)
     array-share-prefix-row
     slice-aggregate-is-necklace-of
     is-necklace-of-requires
-    returns-4
     array-share-prefix-row-2
     slice-aggregate-is-of-kind
     is-of-kind-requires
     (λ c. search needs)
     (λ c. search needs)
     (λ c κs. search needs)
+    returns
+    returns-2
+    returns-3
+    returns-4
     returns-5
     returns-6
     returns-7
-    returns-8
-    returns-9)
+    returns-8)

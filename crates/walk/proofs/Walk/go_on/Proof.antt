@@ -22,27 +22,27 @@ use Rattle.walk.proofs.Walk.go_on.Tie as tie
 module _ (s : tie.Start) where
   -- a walk that has not ended is good
   good : (at : Standing) → s .args .self .at ≡ at → (at ≡ Ended → ⊥) → Good rules (s .args .self)
-  good at e h = record { sound = s .pre .0 .sound; placed = go (s .pre .0 .placed) }
+  good at e h = record { sound = s .pre .ready .sound; placed = go (s .pre .ready .placed) }
     where
       go : (s .args .self .at ≡ Ended) ⊎ GoodAt (s .args .self .at) (s .args .self) → GoodAt (s .args .self .at) (s .args .self)
       go (inl q) = absurd (h (sym e ∙ q))
       go (inr q) = q
 
   known-at : (at : Standing) → s .args .self .at ≡ at → Knows (take (before at (s .args .self .n)) (s .args .self .row)) (s .args .known)
-  known-at at e = subst (λ t. Knows (take (before t (s .args .self .n)) (s .args .self .row)) (s .args .known)) e (s .pre .2)
+  known-at at e = subst (λ t. Knows (take (before t (s .args .self .n)) (s .args .self .row)) (s .args .known)) e (s .pre .knows)
 
   -- the prefixes of the symbols before place p
   table-at : (p : ℕ) → p ≤ s .args .self .n → length (s .args .self .row) ≡ mostStations → s .args .self .n ≤ mostStations → KnowsPrefixes (take (p - 1) (s .args .self .row)) (s .args .prefixes .now)
   table-at p h l few =
       let w = s .args .self in
       let size : length (take (w .n) (w .row)) ≡ w .n = length-take-le (w .n) (w .row) (omega arith) in
-      subst (λ a. KnowsPrefixes a (s .args .prefixes .now)) (take-take (p - 1) (w .n) (w .row) (omega arith)) (knows-fewer (take (w .n) (w .row)) (s .args .prefixes .now) (p - 1) (omega (arith, size)) (s .pre .1))
+      subst (λ a. KnowsPrefixes a (s .args .prefixes .now)) (take-take (p - 1) (w .n) (w .row) (omega arith)) (knows-fewer (take (w .n) (w .row)) (s .args .prefixes .now) (p - 1) (omega (arith, size)) (s .pre .table))
 
 from-limit-requires : tie.Need-from-limit-requires
 from-limit-requires c κs =
     let s = c .before .before .before in
     let e = c .enum-told .given .1 in
-    (e, good s Limit e (λ z. clash (cc)), s .pre .1, known-at s Limit e)
+    (e, good s Limit e (λ z. clash (cc)), s .pre .table, known-at s Limit e)
 
 descend-requires : tie.Need-descend-requires
 descend-requires c κs =
@@ -65,7 +65,7 @@ from-given-requires : tie.Need-from-given-requires
 from-given-requires c κs =
     let s = c .before .before .before in
     let e = c .enum-told2 .given .1 in
-    (e, good s Given e (λ z. clash (cc)), s .pre .1, known-at s Given e)
+    (e, good s Given e (λ z. clash (cc)), s .pre .table, known-at s Given e)
 
 returns-5 : tie.Need-returns-5
 returns-5 c = let s = c .before .before .before in ended-resumes (s .args .self) (s .args .left) _ (c .enum-told3 .given .1) refl refl refl

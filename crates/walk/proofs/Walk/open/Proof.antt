@@ -14,7 +14,7 @@ use Rattle.walk.proofs.Walk.«open».Tie as tie
 returns : tie.Need-returns
 returns c =
     let k = c .before .before in
-    rw (sym (k .before .before .check-drawer .ensures) ∙ ap checkedVerdict (k .checked .given .1)) (c .not-open .ensures)
+    rw (sym (k .before .before .check-drawer .ensures) ∙ ap checkedVerdict (k .checked .given .1)) (refl, c .refused .ensures)
 
 -- what was checked is accepted
 passes : (c : tie.After-enum-told) → let a = c .before .before .before .before .args in openVerdict (a .n) (a .d) (a .kind) (a .limit .now) ≡ accepted

@@ -7,8 +7,8 @@ use lib.Seq.{length-take-le}
 use borrow.Author.Needs.{needs}
 use borrow.Author.Tests.{not-false, not-true}
 use Rattle.walk.proofs.FitCases.{fit-no-record, fit-so-far, record-fitting}
-use Rattle.walk.proofs.StepLoop.{Going, going-first, turn-again, turn-fits, turn-inside, turn-length, turn-less, turn-long, turn-says, turn-symbols, unfit-step}
-use Rattle.walk.specs.InnerCourse.{Fitting, Resumes, size}
+use Rattle.walk.proofs.StepLoop.{Going, first-informed, going-first, struck-informed, struck-inside, struck-length, struck-long, struck-symbols, turn-again, turn-fits, turn-says, unfit-step}
+use Rattle.walk.specs.InnerCourse.{Fitting, Informed, Resumes, size}
 use Rattle.walk.specs.Fit.{fit}
 use Rattle.walk.specs.Moves.{moved, rowOf, rules}
 use Rattle.walk.specs.Step.{stepDue, stepNumbers, stepOf}
@@ -21,7 +21,7 @@ use Rattle.walk.proofs.Walk.step.Statement.{statement}
 use Rattle.walk.proofs.Walk.step.Tie as tie
 
 abbrev Inv-loop : tie.InvT-loop
-Inv-loop w allowance n row₀ at₀ left₀ prefixes₀ known₀ row at left prefixes known = Going w allowance prefixes row at left known
+Inv-loop w allowance n row₀ at₀ left₀ prefixes₀ known₀ row at left prefixes known = Informed (moved w row at) prefixes known × Going w allowance (moved w row at) left
 
 abbrev μ-loop : tie.MeasureT-loop
 μ-loop w allowance n row₀ at₀ left₀ prefixes₀ known₀ row at left prefixes known = size (moved w row at)
@@ -79,17 +79,20 @@ returns-2 c =
 loop-holds : tie.Need-loop-holds Inv-loop μ-loop
 loop-holds c =
     let e = c .before .before .before .before .before .before .before in
-    going-first (start e .args .allowance) (start e .args .self) (sym (tested (c .before)) ∙ not-false _ (c .if2 .left)) (long e) _ _ (c .before .before .before .before .prefixes-of .ensures) (c .before .before .known .ensures)
+    let fits = sym (tested (c .before)) ∙ not-false _ (c .if2 .left) in (
+      first-informed (start e .args .allowance) (start e .args .self) fits (long e) _ _ (c .before .before .before .before .prefixes-of .ensures) (c .before .before .known .ensures),
+      going-first (start e .args .allowance) (start e .args .self) fits (long e),
+    )
 
 go-on-requires : tie.Need-go-on-requires Inv-loop μ-loop
-go-on-requires c κs = let g = c .before .loop .inv in (g .ready, g .table, g .knows)
+go-on-requires c κs = c .before .loop .inv .0
 
 -- the answer
 sub-t29 : tie.Need-sub-t29 Inv-loop μ-loop
-sub-t29 c = turn-fits (c .before .before .before .before .before .before .loop .inv) _ (c .before .before .before .before .go-on .ensures)
+sub-t29 c = turn-fits (c .before .before .before .before .before .before .loop .inv .1) _ (c .before .before .before .before .go-on .ensures)
 
 returns-3 : tie.Need-returns-3 Inv-loop μ-loop
-returns-3 c = due _ _ _ (turn-says (c .before .before .before .before .before .before .loop .inv) _ (c .before .before .before .before .go-on .ensures) _ (c .before .said .given .1))
+returns-3 c = due _ _ _ (turn-says (c .before .before .before .before .before .before .loop .inv .1) _ (c .before .before .before .before .go-on .ensures) _ (c .before .said .given .1))
 
 -- a ring of another kind
 module _ (c : tie.After-enum-told Inv-loop μ-loop) where
@@ -105,34 +108,36 @@ module _ (c : tie.After-enum-told Inv-loop μ-loop) where
   nothing : reached .said ≡ Nothing
   nothing = c .enum-told .given .1
 
-  struck-length : length (take (start (here .before .before .before .before .before .before .before .before) .args .self .n) (reached .row)) ≡ start (here .before .before .before .before .before .before .before .before) .args .self .n
-  struck-length = turn-length (here .loop .inv) reached resumes nothing
+  struck-row : length (take (start (here .before .before .before .before .before .before .before .before) .args .self .n) (reached .row)) ≡ start (here .before .before .before .before .before .before .before .before) .args .self .n
+  struck-row = struck-length resumes nothing
 
 array-share-prefix-row-2 : tie.Need-array-share-prefix-row-2 Inv-loop μ-loop
-array-share-prefix-row-2 c = let g = here c .loop .inv in omega (arith, turn-inside g _ (resumes c) (nothing c), turn-long g _ (resumes c) (nothing c))
+array-share-prefix-row-2 c = omega (arith, struck-inside (resumes c) (nothing c), struck-long (resumes c) (nothing c))
 
 slice-aggregate-prefixes-of-2 : tie.Need-slice-aggregate-prefixes-of-2 Inv-loop μ-loop
-slice-aggregate-prefixes-of-2 c = sym (struck-length (c .before))
+slice-aggregate-prefixes-of-2 c = sym (struck-row (c .before))
 
 prefixes-of-requires-2 : tie.Need-prefixes-of-requires-2 Inv-loop μ-loop
-prefixes-of-requires-2 c κs = let e = c .before in omega (arith, struck-length e, turn-inside (here e .loop .inv) _ (resumes e) (nothing e))
+prefixes-of-requires-2 c κs = let e = c .before in omega (arith, struck-row e, struck-inside (resumes e) (nothing e))
 
 array-share-prefix-row-3 : tie.Need-array-share-prefix-row-3 Inv-loop μ-loop
 array-share-prefix-row-3 c = array-share-prefix-row-2 (c .before .before .before)
 
 slice-aggregate-read : tie.Need-slice-aggregate-read Inv-loop μ-loop
-slice-aggregate-read c = sym (struck-length (c .before .before .before .before))
+slice-aggregate-read c = sym (struck-row (c .before .before .before .before))
 
 read-requires : tie.Need-read-requires Inv-loop μ-loop
 read-requires c κs =
     let e = c .before .before .before .before in
-    (omega (arith, struck-length e, turn-inside (here e .loop .inv) _ (resumes e) (nothing e)), turn-symbols (here e .loop .inv) _ (resumes e) (nothing e), c .before .before .prefixes-of2 .ensures)
+    (omega (arith, struck-row e, struck-inside (resumes e) (nothing e)), struck-symbols (resumes e) (nothing e), c .before .before .prefixes-of2 .ensures)
 
 loop-less : tie.Need-loop-less Inv-loop μ-loop
-loop-less c = let e = c .before .before .before .before .before in turn-less (here e .loop .inv) _ (resumes e) (nothing e)
+loop-less c = let e = c .before .before .before .before .before in resumes e .smaller (nothing e)
 
 loop-again : tie.Need-loop-again Inv-loop μ-loop
-loop-again c = let e = c .before .before .before .before .before in turn-again (here e .loop .inv) _ (resumes e) (nothing e) _ _ (c .before .before .before .prefixes-of2 .ensures) (c .read .ensures)
+loop-again c =
+    let e = c .before .before .before .before .before in
+    (struck-informed (resumes e) (nothing e) _ _ (c .before .before .before .prefixes-of2 .ensures) (c .read .ensures), turn-again (here e .loop .inv .1) _ (resumes e) (nothing e))
 
 pub step-spec : {M : Type 1} → statement M
 step-spec =

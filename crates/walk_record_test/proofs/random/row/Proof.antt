@@ -1,17 +1,14 @@
 -- `walk_record_test::random::row` is safe and ends.
-use mathlib.Core.Path.{_≡_}
-use Prim.Native.Nat.{_-_}
-use lib.ListN.{length}
+use Prim.Native.Nat.{_≤_, _-_}
 use borrow.Author.Needs.{needs}
-use Rattle.refusal.specs.Verdicts.{mostStations}
 use Rattle.walk_record_test.proofs.random.row.Statement.{statement}
 use Rattle.walk_record_test.proofs.random.row.Tie as tie
 
 abbrev Inv-loop : tie.InvT-loop
-Inv-loop index n row₀ i₀ row i = length row ≡ mostStations
+Inv-loop index n row₀ i₀ row i = i ≤ 64
 
 abbrev μ-loop : tie.MeasureT-loop
-μ-loop index n row₀ i₀ row i = mostStations - i
+μ-loop index n row₀ i₀ row i = 64 - i
 
 pub row-spec : {M : Type 1} → statement M
 row-spec =
@@ -19,8 +16,6 @@ row-spec =
     (tie.spec
     Inv-loop
     μ-loop
-    (λ c κs. search needs)
-    (λ c. search needs)
     (λ c. search needs)
     (λ c κs. search needs)
     (λ c. search needs)

@@ -1,15 +1,14 @@
 -- `walk_record_test::single::row_of` is safe and ends.
 use Prim.Native.Nat.{_≤_, _-_}
-use lib.ListN.{length}
 use borrow.Author.Needs.{needs}
 use Rattle.walk_record_test.proofs.single.row_of.Statement.{statement}
 use Rattle.walk_record_test.proofs.single.row_of.Tie as tie
 
 abbrev Inv-loop : tie.InvT-loop
-Inv-loop digits row₀ i₀ row i = i ≤ length digits
+Inv-loop digits symbols row₀ i₀ row i = i ≤ 64
 
 abbrev μ-loop : tie.MeasureT-loop
-μ-loop digits row₀ i₀ row i = length digits - i
+μ-loop digits symbols row₀ i₀ row i = 64 - i
 
 pub row-of-spec : {M : Type 1} → statement M
 row-of-spec =
@@ -17,6 +16,7 @@ row-of-spec =
     (tie.spec
     Inv-loop
     μ-loop
+    (λ c κs. search needs)
     (λ c. search needs)
     (λ c. search needs)
     (λ c. search needs)

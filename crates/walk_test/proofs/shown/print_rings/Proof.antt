@@ -5,10 +5,10 @@ use Rattle.walk_test.proofs.shown.print_rings.Statement.{statement}
 use Rattle.walk_test.proofs.shown.print_rings.Tie as tie
 
 abbrev Inv-loop : tie.InvT-loop
-Inv-loop w₀ i₀ w i = i ≤ 1000
+Inv-loop w₀ i₀ t9 w i = 1 ≤ i
 
 abbrev μ-loop : tie.MeasureT-loop
-μ-loop w₀ i₀ w i = 1000 - i
+μ-loop w₀ i₀ t9 w i = 1000 - i
 
 pub print-rings-spec : {M : Type 1} → statement M
 print-rings-spec =
@@ -19,7 +19,10 @@ print-rings-spec =
     (λ c. search needs)
     (λ c κs. search needs)
     (λ c κs. search needs)
+    (λ c. search needs)
+    (λ c. search needs)
     (λ c κs. search needs)
+    (λ c. search needs)
     (λ c. search needs)
     (λ c κs. search needs)
     (λ c. search needs)

@@ -1,0 +1,2 @@
+-- The drawer program's input.
+pub mod Input

@@ -1,0 +1,4 @@
+-- lines, piece by piece
+pub mod Filling
+-- document 01's example
+pub mod Examples

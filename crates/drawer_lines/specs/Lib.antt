@@ -1,0 +1,2 @@
+-- The drawer program's lines.
+pub mod Lines

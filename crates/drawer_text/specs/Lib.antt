@@ -1,3 +1,0 @@
--- The drawer program's text: its input, its lines.
-pub mod Input
-pub mod Lines

@@ -1,0 +1,2 @@
+-- The search over the places behind a prefix.
+pub mod InnerSearch

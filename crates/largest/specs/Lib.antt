@@ -1,0 +1,3 @@
+-- The top ring.
+pub mod Top
+pub mod Claims

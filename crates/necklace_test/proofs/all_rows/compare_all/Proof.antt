@@ -1,0 +1,35 @@
+-- `necklace_test::all_rows::compare_all` is safe and ends.
+use Prim.Native.Nat.{_≤_, _-_}
+use borrow.Author.Needs.{needs}
+use Rattle.necklace_test.proofs.all_rows.compare_all.Statement.{statement}
+use Rattle.necklace_test.proofs.all_rows.compare_all.Tie as tie
+
+abbrev Inv-loop : tie.InvT-loop
+Inv-loop keys₀ classes₀ number₀ t6 t7 keys classes number = (number ≤ 2048) × (keys ≤ number) × (classes ≤ number)
+
+abbrev μ-loop : tie.MeasureT-loop
+μ-loop keys₀ classes₀ number₀ t6 t7 keys classes number = 2048 - number
+
+pub compare-all-spec : {M : Type 1} → statement M
+compare-all-spec =
+    tie.close
+    (tie.spec
+    Inv-loop
+    μ-loop
+    (λ c. search needs)
+    (λ c κs. search needs)
+    (λ c κs. search needs)
+    (λ c κs. search needs)
+    (λ c κs. search needs)
+    (λ c. search needs)
+    (λ c κs. search needs)
+    (λ c κs. search needs)
+    (λ c. search needs)
+    (λ c. search needs)
+    (λ c. search needs)
+    (λ c. search needs)
+    (λ c. search needs)
+    (λ c κs. search needs)
+    (λ c. search needs)
+    (λ c κs. search needs)
+    (λ c. search needs))

@@ -1,0 +1,27 @@
+-- `printing_test::plain::digits` is safe and ends.
+use Prim.Native.Nat.{_-_, _≤_}
+use borrow.Author.Needs.{needs}
+use Rattle.printing_test.proofs.plain.digits.Statement.{statement}
+use Rattle.printing_test.proofs.plain.digits.Tie as tie
+
+abbrev Inv-loop : tie.InvT-loop
+Inv-loop n number row₀ i₀ row i = i ≤ 64
+
+abbrev μ-loop : tie.MeasureT-loop
+μ-loop n number row₀ i₀ row i = 64 - i
+
+pub digits-spec : {M : Type 1} → statement M
+digits-spec =
+    tie.close
+    (tie.spec
+    Inv-loop
+    μ-loop
+    (λ c κs. search needs)
+    (λ c. search needs)
+    (λ c. search needs)
+    (λ c. search needs)
+    (λ c. search needs)
+    (λ c. search needs)
+    (λ c. search needs)
+    (λ c. search needs)
+    (λ c. search needs))
