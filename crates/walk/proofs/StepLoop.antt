@@ -1,20 +1,21 @@
 -- The loop of a step: what it keeps from one turn to the next.
 use mathlib.Core.Bool.{true, false}
 use mathlib.Core.List.{List}
-use mathlib.Core.Logic.{inl, inr, _⊎_}
+use mathlib.Core.Logic.{inr}
 use mathlib.Core.Path.{ap, subst, sym, _∙_, _≡_}
-use Prim.Native.Nat.{suc, zero, ℕ, _-_, _≤_}
+use Prim.Native.Nat.{ℕ, _-_, _≤_}
 use native.Mathlib.Nat.{le-refl}
 use native.Mathlib.Omega.{arith}
 use lib.ListN.{length, take}
-use lib.Seq.{length-take-le}
+use lib.Seq.{length-take-le, take-take}
+use Rattle.prefix.proofs.CarriedLaws.{knows-fewer}
 use Rattle.prefix.specs.InnerCarried.{Knows, KnowsPrefixes}
 use Rattle.prefix.specs.declared.carried.Known.{Known}
 use Rattle.refusal.specs.declared.Refusal.the-variants.{Unfit}
 use Rattle.walk.proofs.Invariant.{Fit, fit-at, fit-sound}
 use Rattle.walk.proofs.MoveCases.{good-long, good-symbols}
 use Rattle.walk.proofs.StepAgrees.{fit-placed, fit-step}
-use Rattle.walk.specs.InnerCourse.{Good, GoodAt, Informed, Ready, Resumes, before, landed, rest, resumed}
+use Rattle.walk.specs.InnerCourse.{Fitting, Good, Informed, Resumes, before, landed, rest, resumed}
 use Rattle.walk.specs.Fit.{fit}
 use Rattle.walk.specs.Moves.{rowOf, rules}
 use Rattle.walk.specs.Step.{stepOf, stepped}
@@ -29,7 +30,6 @@ use Rattle.walk.specs.declared.Walk.{Walk}
 use Rattle.words.proofs.Alphabet.{within-take}
 use Rattle.words.specs.Symbols.{Within}
 use Rattle.refusal.specs.Verdicts.{mostStations}
-use Rattle.words.proofs.Booleans.{clash}
 
 pub unfit-step : (allowance : ℕ) (w : Walk) → fit rules w ≡ false → stepped w (Refused Unfit) 0 ≡ stepOf rules w allowance
 unfolding stepOf
@@ -42,32 +42,37 @@ pub record Going (first : Walk) (allowance : ℕ) (w : Walk) (left : ℕ) : Type
 
 -- ---- the loop begins
 
--- a fit record stands within its row
-within-row : (w : Walk) (s : Standing) → (s ≡ Ended) ⊎ GoodAt s w → before s (w .n) ≤ w .n
-within-row w Limit h = le-refl (w .n)
-within-row w (Down p) (inl e) = clash (cc)
-within-row w (Down p) (inr h) = omega (arith, h)
-within-row w (Up p) h = up p h
-  where
-    up : (p : ℕ) → (Up p ≡ Ended) ⊎ GoodAt (Up p) w → p - 1 ≤ w .n
-    up p (inl e) = clash (cc)
-    up zero (inr h) = absurd h
-    up (suc i) (inr h) = omega (arith, h .1)
-within-row w Given h = le-refl (w .n)
-within-row w Ended h = omega arith
+-- what is read first: the symbols before the place where it stands
+before-inside : (s : Standing) (n : ℕ) → before s n ≤ n
+before-inside Limit n = le-refl n
+before-inside (Down p) n = omega arith
+before-inside (Up p) n = omega arith
+before-inside Given n = le-refl n
+before-inside Ended n = omega arith
+
+module _ {w : Walk} (f : Fitting w) where
+  pub first-inside : before (w .at) (w .n) ≤ length (w .row)
+  first-inside = omega (arith, before-inside (w .at) (w .n), f .long, f .most)
+
+  pub first-length : length (take (before (w .at) (w .n)) (w .row)) ≡ before (w .at) (w .n)
+  first-length = length-take-le (before (w .at) (w .n)) (w .row) first-inside
+
+  pub first-read : (prefixes : List ℕ) → KnowsPrefixes (rowOf w) prefixes
+      → let a = take (before (w .at) (w .n)) (w .row) in (length a ≤ mostStations) × Within 2 a × KnowsPrefixes a prefixes
+  first-read prefixes k =
+      let h = before-inside (w .at) (w .n) in
+      let size : length (rowOf w) ≡ w .n = length-take-le (w .n) (w .row) (omega (arith, f .long, f .most)) in (
+        omega (arith, first-length, h, f .most),
+        within-take (before (w .at) (w .n)) (w .row) (f .symbols),
+        subst (λ a. KnowsPrefixes a prefixes) (take-take (before (w .at) (w .n)) (w .n) (w .row) h) (knows-fewer (rowOf w) prefixes (before (w .at) (w .n)) (omega (arith, size, h)) k),
+      )
 
 module _ (allowance : ℕ) (w : Walk) (e : fit rules w ≡ true) (l : length (w .row) ≡ mostStations) where
   fitting : Fit rules w
   fitting = record { test = e; long = l }
 
-  pub first-ready : Ready w
-  first-ready =
-      let h = fit-placed rules w (w .at) (fit-at fitting) in
-      record { sound = fit-sound fitting; placed = h; within = within-row w (w .at) h }
-
-  pub first-informed : (prefixes : List ℕ) (known : Known) → KnowsPrefixes (rowOf w) prefixes → (before (w .at) (w .n) ≤ w .n → Knows (take (before (w .at) (w .n)) (w .row)) known)
-      → Informed w prefixes known
-  first-informed prefixes known t k = record { ready = first-ready; table = t; knows = k (first-ready .within) }
+  pub first-informed : (prefixes : List ℕ) (known : Known) → KnowsPrefixes (rowOf w) prefixes → Knows (take (before (w .at) (w .n)) (w .row)) known → Informed w prefixes known
+  first-informed prefixes known t k = record { ready = record { sound = fit-sound fitting; placed = fit-placed rules w (w .at) (fit-at fitting) }; table = t; knows = k }
 
   pub going-first : Going w allowance w allowance
   going-first = let m : allowance - allowance ≡ 0 = omega arith in record { fits = le-refl allowance; same = rw m (sym (fit-step rules w allowance fitting)) }
@@ -108,7 +113,7 @@ module _ {w : Walk} {left : ℕ} {r : Reached} (q : Resumes w left r) (e : r .sa
 
   pub struck-informed : (prefixes : List ℕ) (known : Known) → KnowsPrefixes (rowOf (landed w r)) prefixes → Knows (rowOf (landed w r)) known → Informed (landed w r) prefixes known
   struck-informed prefixes known t k = record {
-    ready = record { sound = good .sound; placed = inr (good .placed); within = subst (λ s. before s (w .n) ≤ w .n) (sym (q .given e)) (le-refl (w .n)) };
+    ready = record { sound = good .sound; placed = inr (good .placed) };
     table = t;
     knows = subst (λ s. Knows (take (before s (w .n)) (r .row)) known) (sym (q .given e)) k;
   }

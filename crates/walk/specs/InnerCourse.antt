@@ -55,11 +55,11 @@ pub record Fitting (w : Walk) : Type 0 where
   pub long : length (w .row) ≡ mostStations
   pub symbols : Within 2 (w .row)
 
--- how many symbols lie before the place where a walk stands
+-- how many symbols lie before the place where a walk stands, n at most: the lower of n and p - 1 is n - (n - (p - 1))
 abbrev pub before : Standing → ℕ → ℕ
 before Limit n = n
-before (Down p) n = p - 1
-before (Up p) n = p - 1
+before (Down p) n = n - (n - (p - 1))
+before (Up p) n = n - (n - (p - 1))
 before Given n = n
 before Ended n = 0
 
@@ -67,7 +67,6 @@ before Ended n = 0
 pub record Ready (w : Walk) : Type 0 where
   pub sound : Sound rules w
   pub placed : (w .at ≡ Ended) ⊎ GoodAt (w .at) w
-  pub within : before (w .at) (w .n) ≤ w .n
 
 -- and what is known of it: of the prefixes of its row, and of the symbols before the place where it stands
 pub record Informed (w : Walk) (prefixes : List ℕ) (known : Known) : Type 0 where

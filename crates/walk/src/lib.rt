@@ -3,14 +3,13 @@ mod course;
 
 use density::drawers::Checked;
 use prefix::carried::Known;
-use prefix::carried::Prefixes;
 use refusal::Refusal;
 ghost use mathlib.Core.Path.{_≡_};
 ghost use mathlib.Core.Bool.{_&&_};
-ghost use Prim.Native.Nat.{_-_, _≤_};
+ghost use Prim.Native.Nat.{_-_};
 ghost use lib.ListN.{take};
-ghost use Rattle.prefix.specs.InnerCarried.{Knows, KnowsPrefixes};
-ghost use Rattle.walk.specs.Moves.{rowOf, rules};
+ghost use Rattle.prefix.specs.InnerCarried.{Knows};
+ghost use Rattle.walk.specs.Moves.{rules};
 ghost use Rattle.walk.specs.Fit.{fitSizes, fitRow, fitAt};
 ghost use Rattle.walk.specs.Step.{stepDue, stepNumbers, stepOf, stepped};
 ghost use Rattle.walk.specs.Opening.{openOutcome, openVerdict, openWalk, refusedWalk};
@@ -75,12 +74,15 @@ pub struct Reached {
     pub said: Said,
 }
 
-// One less, and 0 of 0.
-fn one_less(p: usize) -> usize
-    ensures { λ r. ⌜ r ≡ p - 1 ⌝ }
+// One less than p, n at most, and 0 of 0.
+fn one_less(p: usize, n: usize) -> usize
+    ensures { λ r. ⌜ r ≡ n - (n - (p - 1)) ⌝ }
 {
     if p == 0 {
         return 0;
+    }
+    if n < p {
+        return n;
     }
     p - 1
 }
@@ -142,7 +144,7 @@ impl Walk {
 
     // The row fits where the walk stands. The symbols before that place are known.
     fn fit_at(self, known: Known) -> bool
-        requires { ⌜ Fitting self × (before (self .at) (self .n) ≤ self .n → Knows (take (before (self .at) (self .n)) (self .row)) known) ⌝ }
+        requires { ⌜ Fitting self × Knows (take (before (self .at) (self .n)) (self .row)) known ⌝ }
         ensures { λ r. ⌜ r ≡ fitAt rules (self .at) self ⌝ }
     {
         let n = self.n;
@@ -161,7 +163,7 @@ impl Walk {
         }
     }
 
-    // How many symbols lie before the place where the walk stands: all of them at Limit and Given.
+    // How many symbols lie before the place where the walk stands: all of them at Limit and Given, and no more than that.
     fn before(self) -> usize
         ensures { λ r. ⌜ r ≡ before (self .at) (self .n) ⌝ }
     {
@@ -169,25 +171,11 @@ impl Walk {
         let at = self.at;
         match at {
             Standing::Limit => n,
-            Standing::Down(p) => one_less(p),
-            Standing::Up(p) => one_less(p),
+            Standing::Down(p) => one_less(p, n),
+            Standing::Up(p) => one_less(p, n),
             Standing::Given => n,
             Standing::Ended => 0,
         }
-    }
-
-    // What is known of them, by the prefixes of the row.
-    fn known(self, prefixes: &Prefixes) -> Known
-        requires { ⌜ Fitting self × KnowsPrefixes (rowOf self) (now prefixes) ⌝ }
-        ensures { λ r. ⌜ (before (self .at) (self .n) ≤ self .n → Knows (take (before (self .at) (self .n)) (self .row)) r) ⌝ }
-    {
-        let n = self.n;
-        let row = self.row;
-        let m = self.before();
-        if n < m {
-            return Known::read(prefixes, &row[..n]);
-        }
-        Known::read(prefixes, &row[..m])
     }
 
     // Refusal 22.
@@ -214,7 +202,8 @@ impl Walk {
         let mut at = self.at;
         let mut left = allowance;
         let mut prefixes = prefix::carried::prefixes_of(&row[..n]);
-        let mut known = self.known(&prefixes);
+        let m = self.before();
+        let mut known = Known::read(&prefixes, &row[..m]);
         if !self.fit_at(known) {
             return self.unfit();
         }

@@ -2,7 +2,7 @@
 use mathlib.Core.Bool.{_&&_, true}
 use mathlib.Core.Logic.{⊎-elim}
 use mathlib.Core.Path.{refl, subst, sym, _∙_, _≡_}
-use Prim.Native.Nat.{_≤_}
+use Prim.Native.Nat.{_-_, _≤_}
 use native.Mathlib.Omega.{arith}
 use lib.Dec.{leb}
 use lib.ListN.{length, take}
@@ -29,10 +29,8 @@ module _ (s : tie.Start) where
   whole = length-take-le (s .args .self .n) (s .args .self .row) inside
 
   -- what is known where it stands
-  known-at : (at : Standing) → s .args .self .at ≡ at → before at (s .args .self .n) ≤ s .args .self .n → Knows (take (before at (s .args .self .n)) (s .args .self .row)) (s .args .known)
-  known-at at e h =
-      subst (λ t. Knows (take (before t (s .args .self .n)) (s .args .self .row)) (s .args .known)) e
-      (s .pre .1 (subst (λ t. before t (s .args .self .n) ≤ s .args .self .n) (sym e) h))
+  known-at : (at : Standing) → s .args .self .at ≡ at → Knows (take (before at (s .args .self .n)) (s .args .self .row)) (s .args .known)
+  known-at at e = subst (λ t. Knows (take (before t (s .args .self .n)) (s .args .self .row)) (s .args .known)) e (s .pre .1)
 
 returns : tie.Need-returns
 unfolding fitAt
@@ -64,8 +62,11 @@ ask-requires c κs =
     let j = c .before in
     let s = j .before .before .before .before .before in
     let f = s .pre .0 in
+    let p = j .before .before .at2 .given .0 .0 in
+    let n = s .args .self .n in
     let l = within j (c .if3 .taken) .1 in
-    (f .some, f .most, f .dense, omega (arith, l), f .symbols, known-at s (Up _) (j .before .before .at2 .given .1) (omega (arith, l)))
+    let here : n - (n - (p - 1)) ≡ p - 1 = omega (arith, l) in
+    (f .some, f .most, f .dense, omega (arith, l), f .symbols, rw here at (known-at s (Up p) (j .before .before .at2 .given .1)))
 
 returns-4 : tie.Need-returns-4
 returns-4 c =
@@ -77,7 +78,7 @@ returns-5 c = let j = c .before in fit-as _ (Up _) (j .before .before .at2 .give
 
 -- Given: the whole row is known
 known-row : (c : tie.After-enum-told2) → Knows (rowOf (c .before .before .before .args .self)) (c .before .before .before .args .known)
-known-row c = let s = c .before .before .before in known-at s Given (c .enum-told2 .given .1) (omega arith)
+known-row c = known-at (c .before .before .before) Given (c .enum-told2 .given .1)
 
 array-share-prefix-row : tie.Need-array-share-prefix-row
 array-share-prefix-row c = inside (c .before .before .before)

@@ -8,7 +8,7 @@ use lib.Seq.{length-take-le, take-take}
 use borrow.Author.Needs.{needs}
 use Rattle.prefix.proofs.CarriedLaws.{knows-fewer}
 use Rattle.prefix.specs.InnerCarried.{Knows, KnowsPrefixes}
-use Rattle.walk.proofs.MoveCases.{good-down, good-long}
+use Rattle.walk.proofs.MoveCases.{good-down, good-long, good-up}
 use Rattle.walk.proofs.Resuming.{ended-resumes}
 use Rattle.walk.specs.InnerCourse.{Good, GoodAt, before}
 use Rattle.walk.specs.Moves.{rules}
@@ -31,7 +31,11 @@ module _ (s : tie.Start) where
   known-at : (at : Standing) → s .args .self .at ≡ at → Knows (take (before at (s .args .self .n)) (s .args .self .row)) (s .args .known)
   known-at at e = subst (λ t. Knows (take (before t (s .args .self .n)) (s .args .self .row)) (s .args .known)) e (s .pre .knows)
 
-  -- the prefixes of the symbols before place p
+  -- what is known of the symbols before place p
+  known-before : (p : ℕ) → p - 1 ≤ s .args .self .n → Knows (take (s .args .self .n - (s .args .self .n - (p - 1))) (s .args .self .row)) (s .args .known) → Knows (take (p - 1) (s .args .self .row)) (s .args .known)
+  known-before p h k = let here : s .args .self .n - (s .args .self .n - (p - 1)) ≡ p - 1 = omega arith in rw here at k
+
+  -- the prefixes of them
   table-at : (p : ℕ) → p ≤ s .args .self .n → length (s .args .self .row) ≡ mostStations → s .args .self .n ≤ mostStations → KnowsPrefixes (take (p - 1) (s .args .self .row)) (s .args .prefixes .now)
   table-at p h l few =
       let w = s .args .self in
@@ -52,14 +56,15 @@ descend-requires c κs =
       e,
       g,
       table-at s _ (good-down g _ e) (good-long g) (g .sound .most),
-      known-at s (Down _) e,
+      known-before s _ (omega (arith, good-down g _ e)) (known-at s (Down _) e),
     )
 
 ascend-requires : tie.Need-ascend-requires
 ascend-requires c κs =
     let s = c .before .before .before .before in
     let e = c .before .at2 .given .1 in
-    (e, good s (Up _) e (λ z. clash (cc)), known-at s (Up _) e)
+    let g = good s (Up _) e (λ z. clash (cc)) in
+    (e, g, known-before s _ (omega (arith, good-up g _ e .1)) (known-at s (Up _) e))
 
 from-given-requires : tie.Need-from-given-requires
 from-given-requires c κs =
