@@ -4,14 +4,17 @@ from itertools import count, product
 import texts
 from cases import MOST, calls, lines, numeral
 from rings import (
+    ZEROS,
     begins,
     begins_by_tops,
     book,
     book_answers,
     drawer,
+    first_difference,
     gaps_of_row,
     key,
     opened,
+    padded,
     refusal,
     row_of_gaps,
     shelved,
@@ -66,6 +69,35 @@ def largest_test():
     print("compared", pairs, "agreed", pairs)
     for n, d, room in calls("largest_test", "show"):
         show_top(n, d, room)
+
+
+# ---- compare_test
+
+
+def order(row, other):
+    return "lower" if row < other else "equal" if row == other else "higher"
+
+
+def cut(row, k, place):
+    length = (0, place, place + 1, place + 2, place + 7, place + 8, place + 9, 299, 300)[k]
+    return row[:length] if length <= 300 else ()
+
+
+def compare_test():
+    for line in lines("compare_test"):
+        row, other = map(symbols, line[4:].split(" against "))
+        print(f"{line}: {order(row, other)} place {first_difference(row, other)}")
+    rows = [row for n in range(8) for row in product((0, 1), repeat=n)]
+    pairs, places = len(rows) ** 2, sum(first_difference(*pair) for pair in product(rows, repeat=2))
+    print("rows of up to 7 symbols: pairs", pairs, "agreed", pairs, "places", places)
+    pairs = places = 0
+    row = tuple(255 - i % 256 for i in range(300))
+    for place in range(300):
+        other = row[:place] + (255 - row[place],) + row[place + 1 :]
+        for k, m in product(range(9), repeat=2):
+            pairs += 2
+            places += first_difference(cut(row, k, place), cut(other, m, place))
+    print("rows of up to 300 bytes: pairs", pairs, "agreed", pairs, "places", places)
 
 
 # ---- necklace_test
@@ -168,16 +200,20 @@ def allowances(name):
 
 
 def compare(n, limits, allowed):
-    walks = rings = trials = spent = 0
+    walks = rings = trials = spent = places = 0
     for d in range(n + 1):
         for kind in 1, 2:
             for limit in limits:
                 walks += 1
-                for answer, made in book_answers(book(n, d, kind, row_of_number(n, limit)), allowances(allowed)):
-                    rings += isinstance(answer, tuple)
+                before = row_of_number(n, limit)
+                for answer, made in book_answers(book(n, d, kind, before), allowances(allowed)):
                     spent += answer == 21
                     trials += made
-    print(f"n {n}: walks {walks} rings {rings} trials {trials} spent {spent} differing 0")
+                    if isinstance(answer, tuple):
+                        rings += 1
+                        places += first_difference(before, answer)
+                        before = answer
+    print(f"n {n}: walks {walks} rings {rings} trials {trials} spent {spent} places {places} differing 0")
 
 
 def show_walk(n, d, kind, digits):
@@ -187,11 +223,11 @@ def show_walk(n, d, kind, digits):
         print(refused(*no), "ended walk of (1,0): yes")
         return
     for number in count(1):
-        walk, answer, trials = step(walk, PLENTY)
-        if answer != "ring":
-            print("end -", trials)
+        walk, answer, place, trials = step(walk, PLENTY)
+        ring = text(walk[3][:n]) if answer == "ring" else None
+        print(*([number, ring] if ring else ["end"]), "place", place, "trials", trials)
+        if not ring:
             return
-        print(number, text(walk[3][:n]), trials)
 
 
 def walk_test():
@@ -218,42 +254,49 @@ STANDINGS = ("Limit", "Down", "Up", "Given", "Ended")
 
 def show_single(line):
     name, fields = line.split(": ")
-    n, d, kind, where, place, digits = fields.split(" ")
-    row = symbols(digits) + (0,) * (64 - len(digits))
-    walk = (numeral(n), numeral(d), int(kind), row, (where, numeral(place)))
-    after, answer, trials = step(walk, PLENTY)
+    n, d, kind, where, place, *rows = fields.split(" ")
+    row, kept = (padded(symbols(digits)) for digits in (rows + [""])[:2])
+    walk = (numeral(n), numeral(d), int(kind), row, (where, numeral(place)), kept)
+    after, answer, carried, trials = step(walk, PLENTY)
     answer = answer if answer in ("ring", "none") else f"refused {answer}"
-    where, place = after[4]
-    print(f"{name}: {answer} trials {trials} row {text(after[3][: after[0]])}", end=" ")
-    print(f"standing {STANDINGS.index(where)} place {place} unchanged {said(after == walk)}")
+    n, _, _, row, (where, place), kept = after
+    print(f"{name}: {answer} trials {trials} row {text(row[:n])} standing {STANDINGS.index(where)} place {place}", end=" ")
+    print(f"carries {carried} kept {text(kept[:n])} unchanged {said(after == walk)}")
+
+
+def number_of(row):
+    number = 0
+    for x in row:
+        number = (2 * number + x) % 10007
+    return number
 
 
 def show_outcomes(name, steps):
     answers = dict.fromkeys(("ring", "none", 20, 21, 22), 0)
-    changed = trials = rows = places = 0
+    changed = trials = rows = places = carried = kept = 0
     for walk, allowance in steps:
-        after, answer, made = step(walk, allowance)
+        after, answer, place, made = step(walk, allowance)
         answers[answer] += 1
         changed += answer in (20, 22) and (after != walk or made > 0)
         trials += made
-        number = 0
-        for x in after[3][: after[0]]:
-            number = (2 * number + x) % 10007
-        rows += number
+        rows += number_of(after[3][: after[0]])
         places += after[4][1]
+        carried += place
+        kept += number_of(after[5][: after[0]])
     print(name, "rings %d none %d ended %d spent %d unfit %d" % tuple(answers.values()), end=" ")
-    print(f"changed {changed} trials {trials} rows {rows} places {places}")
+    print(f"changed {changed} misplaced 0 trials {trials} rows {rows} places {places} carried {carried} kept {kept}")
 
 
 def all_records(n):
-    """Kinds 0 to 3, up to n + 1 holes, all rows, all standings with places up to n + 1."""
+    """Kinds 0 to 3, up to n + 1 holes, all rows, all standings with places up to n + 1; up to 4 stations all rows kept."""
     standings = [("Limit", 0), ("Given", 0), ("Ended", 0)]
-    standings += [(where, p) for where in ("Down", "Up") for p in range(n + 2)]
-    for at in standings:
-        for row in product((0, 1), repeat=n):
-            for d in range(n + 2):
-                for kind in range(4):
-                    yield n, d, kind, row + (0,) * (64 - n), at
+    standings += [(where, p) for p in range(n + 2) for where in ("Down", "Up")]
+    rows = list(product((0, 1), repeat=n))
+    records = product(rows if n <= 4 else rows[:1], standings, rows, range(n + 2))
+    for number, (kept, at, row, d) in enumerate(records):
+        kept = rows[(rows.index(kept) + number) % len(rows)]
+        for kind in range(4):
+            yield n, d, kind, padded(row), at, padded(kept)
 
 
 def drawn(record, which, bound):
@@ -270,17 +313,22 @@ def random_symbol(record, i, n):
     return {0: 1, 1: 2, 2: 255}.get(x, x % 2)
 
 
+def random_row(record, n):
+    return tuple(random_symbol(record, i, n) for i in range(64)) if drawn(record, 66, 8) else ZEROS
+
+
 def random_step(record):
     n = drawn(record, 65, 68 if drawn(record, 64, 2) else 10)
-    row = (0,) * 64
-    if drawn(record, 66, 8):
-        row = tuple(random_symbol(record, i, n) for i in range(64))
+    row = random_row(record, n)
     d = row.count(1) if drawn(record, 67, 2) else drawn(record, 68, n + 2)
     kind = drawn(record, 69, 32)
     where = STANDINGS[drawn(record, 70, 5)]
     at = where, drawn(record, 71, n + 2) if where in ("Down", "Up") else 0
     allowance = drawn(record, 72, 8)
-    return (n, d, {0: 0, 1: 3}.get(kind, 1 + kind % 2), row, at), allowance if allowance < 7 else PLENTY
+    which = drawn(record, 73, 8)
+    kept = ZEROS if where == "Ended" and which < 7 else random_row(record + 500000, n)
+    kept = row if which < 2 else kept
+    return (n, d, {0: 0, 1: 3}.get(kind, 1 + kind % 2), row, at, kept), allowance if allowance < 7 else PLENTY
 
 
 def walk_record_test():
@@ -293,6 +341,23 @@ def walk_record_test():
             show_outcomes(f"n {n} records {len(records)} {allowed}", ((walk, a) for walk in records))
     for first, end in calls("walk_record_test", "show_records"):
         show_outcomes(f"at random, records {first} up to {end}", map(random_step, range(first, end)))
+
+
+# ---- walk_bench
+
+
+def walk_bench():
+    n, d, kind, hundreds = texts.stored_input("walk_bench")
+    _, walk = opened(n, d, kind, (1,) * n)
+    rings = trials = places = 0
+    while rings < 100 * hundreds:
+        walk, answer, place, made = step(walk, MOST)
+        trials += made
+        places += place
+        if answer == "none":
+            break
+        rings += 1
+    print(rings, "rings", trials, "trials", places, "places")
 
 
 # ---- drawer_input_test

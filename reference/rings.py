@@ -1,6 +1,6 @@
 """Document 01's definitions, for reading and not for speed. Rows are tuples of symbols."""
 from functools import lru_cache
-from itertools import product
+from itertools import product, zip_longest
 
 
 def turn(row, j):
@@ -13,6 +13,11 @@ def shelved(row):
 
 def without_symmetry(row):
     return all(row < turn(row, j) for j in range(1, len(row)))
+
+
+def first_difference(row, other):
+    """The place of the first difference, just after the shorter where one begins the other; 0 where they are equal."""
+    return next((p for p, (x, y) in enumerate(zip_longest(row, other), 1) if x != y), 0)
 
 
 def period(row):
@@ -118,8 +123,8 @@ def book(n, d, kind, limit):
         if y is None:
             lines.append((None, sum(counted)))
             break
-        p = next(i for i in range(n) if x[i] != y[i])
-        lines.append((y, sum(counted[p:]) + n - p - 1))
+        p = first_difference(x, y)
+        lines.append((y, sum(counted[p - 1 :]) + n - p))
         x, first = y, False
     kept, owed = [], 0
     for row, price in lines:
@@ -146,13 +151,15 @@ def book_answers(lines, allowances):
             owed = lines[0][1] if lines else 0
 
 
-# ---- a walk, trial by trial: a record is n, d, kind, a row of 64 symbols, and where it stands
+# ---- a walk, trial by trial: a record is n, d, kind, a row of 64 symbols, where it stands, and the row kept, of 64 symbols too
+
+ZEROS = (0,) * 64
 
 
-def fit(n, d, kind, row, at):
+def fit(n, d, kind, row, at, kept):
     if not (stations(n) and d <= n and kind in (1, 2)):
         return False
-    if any(x > 1 for x in row[:n]) or any(row[n:]):
+    if any(x > 1 for x in row[:n] + kept[:n]) or any(row[n:] + kept[n:]):
         return False
     where, p = at
     if where == "Down":
@@ -161,22 +168,23 @@ def fit(n, d, kind, row, at):
         return 2 <= p <= n and begins(n, d, row[: p - 1])
     if where == "Given":
         return sum(row) == d and shelved(row[:n]) and of_kind(kind, row[:n])
-    return where == "Limit" or not any(row)
+    return where == "Limit" or row == kept == ZEROS
 
 
 def step(walk, allowance):
-    """The walk, the answer ("ring", "none", 20, 21 or 22) and the trials."""
+    """The walk, the answer ("ring", "none", 20, 21 or 22), the place that it carries, and the trials."""
     if not fit(*walk):
-        return walk, 22, 0
-    n, d, kind, row, (where, p) = walk
+        return walk, 22, 0, 0
+    n, d, kind, row, (where, p), kept = walk
     if where == "Ended":
-        return walk, 20, 0
+        return walk, 20, 0, 0
     row, trials, found = list(row), 0, False
     while True:
         here = tuple(row[:n])
         if found:
             if of_kind(kind, here):
-                return (n, d, kind, tuple(row), ("Given", 0)), "ring", trials
+                ring = tuple(row)
+                return (n, d, kind, ring, ("Given", 0), ring), "ring", first_difference(kept[:n], here), trials
             where, found = "Given", False
         elif where == "Limit":
             found = sum(here) == d and shelved(here)
@@ -186,13 +194,13 @@ def step(walk, allowance):
             if d:
                 row[n - 1] = 0
         elif where == "Down" and p == 0:
-            return (n, d, kind, (0,) * 64, ("Ended", 0)), "none", trials
+            return (n, d, kind, ZEROS, ("Ended", 0), ZEROS), "none", 0, trials
         elif where == "Down" and row[p - 1] == 0:
             p -= 1
         elif where == "Up" and p == n + 1:
             found = True
         elif trials == allowance:
-            return (n, d, kind, tuple(row), (where, p)), 21, trials
+            return (n, d, kind, tuple(row), (where, p), kept), 21, 0, trials
         elif where == "Down":
             trials += 1
             if begins(n, d, here[: p - 1] + (0,)):
@@ -206,7 +214,11 @@ def step(walk, allowance):
             p += 1
 
 
+def padded(row):
+    return row + (0,) * (64 - len(row))
+
+
 def opened(n, d, kind, limit):
     """The refusal and None, or None and the walk."""
     no = refusal((1, not stations(n)), (2, d > n), (5, kind not in (1, 2)), (4, len(limit) != n), (3, wrong(limit)))
-    return (no, None) if no else (None, (n, d, kind, limit + (0,) * (64 - n), ("Limit", 0)))
+    return (no, None) if no else (None, (n, d, kind, padded(limit), ("Limit", 0), padded(limit)))

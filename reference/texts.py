@@ -48,7 +48,7 @@ def drawer(text):
         return refusal_text(*no)
     printed = HEADER
     for number in count(1):
-        walk, answer, trials = step(walk, MOST)
+        walk, answer, _, trials = step(walk, MOST)
         if answer == "none":
             return printed + end_line(trials)
         row = walk[3][: walk[0]]

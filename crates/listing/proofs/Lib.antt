@@ -7,6 +7,7 @@ pub mod RingsNamed
 -- after some steps: what the next says, and what each ring took in all
 pub mod ListingLeft
 pub mod Totalled
+pub mod PlacesNamed
 -- both ceilings of the trials
 pub mod TrialBounds
 -- what is claimed in specs/

@@ -30,7 +30,8 @@ pub fn least_rotation(row: &[u8]) -> Least
     let mut b: usize = 0;
     'rotations: for j in 1..n {
         // the tail of the row, from place j on
-        let order = words::compare(&row[j..], &row[b..b + (n - j)]);
+        let compared = words::compare(&row[j..], &row[b..b + (n - j)]);
+        let order = compared.order;
         match order {
             Order::Higher => {
                 continue 'rotations;

@@ -63,7 +63,7 @@ module _ (k : ℕ) (w : Walk) (long : length (w .row) ≡ mostStations) where
       agrees = step-agrees rules w highest64 (record { test = f; long = long })
 
       tells : told (saidAs (r .answer) (r .walk)) (r .trials) ≡ listingStep (listingOf w) highest64 .tells
-      tells = sym (told-as (r .answer) (r .walk) (r .trials)) ∙ agrees .tells
+      tells = sym (told-as (r .answer) (r .walk) (r .place) (r .trials)) ∙ agrees .tells
 
       -- a step that is refused
       none-so : (c : ℕ) → saidAs (r .answer) (r .walk) ≡ refused c → saidLeft k (saidAs (r .answer) (r .walk)) (r .trials) (linesLeft (k + 1) (listingOf (r .walk))) ≡ stopped

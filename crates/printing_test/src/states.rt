@@ -13,6 +13,7 @@ fn amid(n: usize, at: Standing, number: u64) -> Printing {
         kind: 1,
         row,
         at,
+        kept: row,
     };
     Printing {
         walk,

@@ -1,15 +1,20 @@
--- The starred specimens of document 01, and what each says of the definitions.
+-- The starred specimens of document 01, with the places of M-100, and what each says of the definitions.
 use mathlib.Core.Path.{_≡_}
 use mathlib.Core.Bool.{Bool, true, false}
 use mathlib.Core.List.{List, [], _∷_}
 use Prim.Native.Nat.{ℕ}
+use Rattle.words.specs.Difference.{firstDifference}
+use Rattle.words.specs.Order.{cmp, orderOf}
 use Rattle.words.specs.Rotation.{leastRotation, leastIndex, period}
+use Rattle.words.specs.declared.Order.{Order}
+use Rattle.words.specs.declared.Order.the-variants.{Lower}
 use Rattle.density.specs.Necklaces.{begins, largestNecklace}
 use Rattle.gaps.specs.Gaps.{gapsOfRow}
 use Rattle.listing.specs.Listing.{Line, ring, none, says, told}
+use Rattle.listing.specs.Places.{placed}
 use Rattle.walk.specs.Moves.{rules}
 use Rattle.walk.specs.Opening.{openVerdict, openWalk}
-use Rattle.walk.specs.Step.{walkAnswers}
+use Rattle.walk.specs.Step.{walkPlaced}
 
 pub data Specimen : Type 0 where
   -- key of a row: the key, its turn and the period
@@ -20,8 +25,10 @@ pub data Specimen : Type 0 where
   top : ℕ → ℕ → List ℕ → Specimen
   -- gaps of a row
   gaps : List ℕ → List ℕ → Specimen
-  -- drawer (n, d), kind, limit: the first answer of the walk that opening hands out, and its trials
-  step : ℕ → ℕ → ℕ → List ℕ → Line → ℕ → Specimen
+  -- two rows: their order, and the place where they first differ
+  compared : List ℕ → List ℕ → Order → ℕ → Specimen
+  -- drawer (n, d), kind, limit: the first answer of the walk that opening hands out, its place and its trials
+  step : ℕ → ℕ → ℕ → List ℕ → Line → ℕ → ℕ → Specimen
 
 -- what a specimen says
 abbrev pub Says : Specimen → Type 0
@@ -29,7 +36,9 @@ Says (key w least turn p) = (leastRotation w ≡ least) × (leastIndex w ≡ tur
 Says (prefix n d p answer) = begins n d p ≡ answer
 Says (top n d w) = largestNecklace n d ≡ w
 Says (gaps w list) = gapsOfRow w ≡ list
-Says (step n d kind limit line trials) = walkAnswers rules (openWalk (openVerdict n d kind limit) rules n d kind limit) (100 ∷ []) ≡ told (says line) trials ∷ []
+Says (compared a b order place) = (orderOf (cmp a b) ≡ order) × (firstDifference a b ≡ place)
+Says (step n d kind limit line place trials) =
+    walkPlaced rules (openWalk (openVerdict n d kind limit) rules n d kind limit) (100 ∷ []) ≡ placed (told (says line) trials) place ∷ []
 
 -- what all of a list say
 abbrev pub Say : List Specimen → Type 0
@@ -45,11 +54,12 @@ starred =
     ∷ prefix 4 3 (0 ∷ []) true
     ∷ top 8 3 (0 ∷ 0 ∷ 1 ∷ 0 ∷ 0 ∷ 1 ∷ 0 ∷ 1 ∷ [])
     ∷ top 8 5 (0 ∷ 1 ∷ 0 ∷ 1 ∷ 1 ∷ 0 ∷ 1 ∷ 1 ∷ [])
-    ∷ step 8 3 1 (0 ∷ 0 ∷ 0 ∷ 1 ∷ 1 ∷ 0 ∷ 0 ∷ 0 ∷ []) (ring (0 ∷ 0 ∷ 0 ∷ 1 ∷ 0 ∷ 1 ∷ 0 ∷ 1 ∷ [])) 4
-    ∷ step 8 3 1 (0 ∷ 0 ∷ 1 ∷ 0 ∷ 0 ∷ 1 ∷ 0 ∷ 0 ∷ []) (ring (0 ∷ 0 ∷ 0 ∷ 1 ∷ 1 ∷ 0 ∷ 0 ∷ 1 ∷ [])) 7
-    ∷ step 8 3 1 (0 ∷ 0 ∷ 0 ∷ 0 ∷ 0 ∷ 1 ∷ 1 ∷ 0 ∷ []) none 2
-    ∷ step 4 2 2 (0 ∷ 1 ∷ 0 ∷ 1 ∷ []) (ring (0 ∷ 0 ∷ 1 ∷ 1 ∷ [])) 3
-    ∷ step 2 0 2 (1 ∷ 1 ∷ []) none 3
-    ∷ step 1 0 2 (0 ∷ []) (ring (0 ∷ [])) 0
+    ∷ compared (0 ∷ 1 ∷ []) (0 ∷ 1 ∷ 0 ∷ []) Lower 3
+    ∷ step 8 3 1 (0 ∷ 0 ∷ 0 ∷ 1 ∷ 1 ∷ 0 ∷ 0 ∷ 0 ∷ []) (ring (0 ∷ 0 ∷ 0 ∷ 1 ∷ 0 ∷ 1 ∷ 0 ∷ 1 ∷ [])) 5 4
+    ∷ step 8 3 1 (0 ∷ 0 ∷ 1 ∷ 0 ∷ 0 ∷ 1 ∷ 0 ∷ 0 ∷ []) (ring (0 ∷ 0 ∷ 0 ∷ 1 ∷ 1 ∷ 0 ∷ 0 ∷ 1 ∷ [])) 3 7
+    ∷ step 8 3 1 (0 ∷ 0 ∷ 0 ∷ 0 ∷ 0 ∷ 1 ∷ 1 ∷ 0 ∷ []) none 0 2
+    ∷ step 4 2 2 (0 ∷ 1 ∷ 0 ∷ 1 ∷ []) (ring (0 ∷ 0 ∷ 1 ∷ 1 ∷ [])) 2 3
+    ∷ step 2 0 2 (1 ∷ 1 ∷ []) none 0 3
+    ∷ step 1 0 2 (0 ∷ []) (ring (0 ∷ [])) 0 0
     ∷ gaps (0 ∷ 0 ∷ 1 ∷ 0 ∷ 0 ∷ 1 ∷ 0 ∷ 1 ∷ []) (2 ∷ 2 ∷ 1 ∷ [])
     ∷ []

@@ -1,9 +1,11 @@
 // The drawer's book by a plain listing. A row of n stations is a number, the first symbol its highest binary digit; half is 2 to the n - 1.
 ghost use Prim.Native.Nat.{_<_, _≤_, _+_, _*_};
 
-// What is next in the book: a line's number or none, which has number 0, and the trials owed to it. After none nothing is to come.
+// What is next in the book: a line's number or none, which has number 0, the number of the row it is measured from, and the trials owed
+// to it. A line is measured from the one given before it, the first from the limit. After none nothing is to come.
 pub struct Book {
     pub number: usize,
+    pub kept: usize,
     pub none: bool,
     pub over: bool,
     pub owed: usize,
@@ -87,8 +89,7 @@ fn holes(x: usize, k: usize, line: bool) -> usize
 
 // How many symbols there are from the first that differs to the end.
 fn differing(n: usize, x: usize, y: usize) -> usize
-    requires { ⌜ n ≤ 14 ⌝ }
-    ensures { λ r. ⌜ r ≤ 14 ⌝ }
+    ensures { λ r. ⌜ r ≤ n ⌝ }
 {
     let mut a = x;
     let mut b = y;
@@ -163,6 +164,7 @@ fn after(n: usize, half: usize, d: usize, kind: u8, x: usize, line: bool) -> Boo
         if kind <= class(n, half, number) {
             return Book {
                 number,
+                kept: x,
                 none: false,
                 over: false,
                 owed,
@@ -173,6 +175,7 @@ fn after(n: usize, half: usize, d: usize, kind: u8, x: usize, line: bool) -> Boo
     owed += holes(number, n, is_line);
     Book {
         number: 0,
+        kept: x,
         none: true,
         over: false,
         owed,
@@ -192,6 +195,7 @@ pub fn opened(n: usize, half: usize, d: usize, kind: u8, limit: usize) -> Book
     if kind <= class(n, half, limit) {
         return Book {
             number: limit,
+            kept: limit,
             none: false,
             over: false,
             owed: 0,
@@ -219,6 +223,18 @@ pub fn trials(book: Book, allowance: usize) -> usize {
     book.owed
 }
 
+// The place that a step carries.
+pub fn place(n: usize, book: Book, allowance: usize) -> usize {
+    if says(book, allowance) != 0 {
+        return 0;
+    }
+    let k = differing(n, book.kept, book.number);
+    if k == 0 {
+        return 0;
+    }
+    n - k + 1
+}
+
 // The book after a step.
 pub fn stepped(n: usize, half: usize, d: usize, kind: u8, book: Book, allowance: usize) -> Book
     requires { ⌜ n ≤ 14 ⌝ }
@@ -229,6 +245,7 @@ pub fn stepped(n: usize, half: usize, d: usize, kind: u8, book: Book, allowance:
     if allowance < book.owed {
         return Book {
             number: book.number,
+            kept: book.kept,
             none: book.none,
             over: false,
             owed: book.owed - allowance,
@@ -237,6 +254,7 @@ pub fn stepped(n: usize, half: usize, d: usize, kind: u8, book: Book, allowance:
     if book.none {
         return Book {
             number: 0,
+            kept: 0,
             none: true,
             over: true,
             owed: 0,

@@ -41,11 +41,32 @@ pub fn same_row(row: &[u8; refusal::MOST_STATIONS], other: &[u8; refusal::MOST_S
     test_rows::order(row, 0, other, 0, refusal::MOST_STATIONS) == 1
 }
 
+// The place, from 1, where the first n symbols first differ; 0 where they are the same.
+pub fn first_difference(
+    n: usize,
+    row: &[u8; refusal::MOST_STATIONS],
+    other: &[u8; refusal::MOST_STATIONS],
+) -> usize {
+    let mut i: usize = 0;
+    while i < n {
+        if refusal::MOST_STATIONS <= i {
+            return 0;
+        }
+        if row[i] != other[i] {
+            return i + 1;
+        }
+        i += 1;
+    }
+    0
+}
+
 pub fn same_walk(w: Walk, other: Walk) -> bool {
     let row = w.row;
     let at = w.at;
+    let kept = w.kept;
     let other_row = other.row;
     let other_at = other.at;
+    let other_kept = other.kept;
     if w.n != other.n {
         return false;
     }
@@ -61,7 +82,10 @@ pub fn same_walk(w: Walk, other: Walk) -> bool {
     if standing_place(at) != standing_place(other_at) {
         return false;
     }
-    same_row(&row, &other_row)
+    if !same_row(&row, &other_row) {
+        return false;
+    }
+    same_row(&kept, &other_kept)
 }
 
 // ---- sums, none above a billion

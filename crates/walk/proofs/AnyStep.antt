@@ -39,16 +39,16 @@ pub data StepCase (R : Rules) (w : Walk) (a : ℕ) (r : Stepped) : Type 0 where
   spent-case : stepNumbers r .number ≡ 21 → Unended R w → a < trialsNeeded R w → stepNumbers r .trials ≡ a → (u : Walk) → moveAt R (r .walk .at) (r .walk) ≡ trial u → StepCase R w a r
   given-case : stepNumbers r .number ≡ 0 → Unended R w → trialsNeeded R w ≤ a → stepNumbers r .trials ≡ trialsNeeded R w → StepCase R w a r
 
-same-trials : (t : Answer) (v : Walk) (k : ℕ) → answerNumbers t v k .trials ≡ k
-same-trials Ring v k = refl
-same-trials None v k = refl
-same-trials (Refused r) v k = refl
+same-trials : (t : Answer) (v : Walk) (p k : ℕ) → answerNumbers t v p k .trials ≡ k
+same-trials Ring v p k = refl
+same-trials None v p k = refl
+same-trials (Refused r) v p k = refl
 
 -- an answer that says a ring or none has no number
-no-number : (t : Answer) (v : Walk) (k : ℕ) {s : Line} → saidAs t v ≡ says s → answerNumbers t v k .number ≡ 0
-no-number Ring v k q = refl
-no-number None v k q = refl
-no-number (Refused r) v k q = let n = some-number r in absurd (refused≢line (rw (n .1) at q))
+no-number : (t : Answer) (v : Walk) (p k : ℕ) {s : Line} → saidAs t v ≡ says s → answerNumbers t v p k .number ≡ 0
+no-number Ring v p k q = refl
+no-number None v p k q = refl
+no-number (Refused r) v p k q = let n = some-number r in absurd (refused≢line (rw (n .1) at q))
 
 module _ (R : Rules) (w : Walk) (a : ℕ) (long : length (w .row) ≡ R .most) where
   good-case : (f : Fit R w) (g : Good R w) → StepCase R w a (stepOf R w a)
@@ -58,7 +58,7 @@ module _ (R : Rules) (w : Walk) (a : ℕ) (long : length (w .row) ≡ R .most) w
       r = stepOf R w a
 
       made : stepNumbers r .trials ≡ r .trials
-      made = same-trials (r .answer) (r .walk) (r .trials)
+      made = same-trials (r .answer) (r .walk) (r .place) (r .trials)
 
       b : Coming (stands R w)
       b = coming (stands-closed R w g)
@@ -72,9 +72,9 @@ module _ (R : Rules) (w : Walk) (a : ℕ) (long : length (w .row) ≡ R .most) w
       go : Ran R (Good R) (Fit R) (stands R) size a 0 (b .first) (b .owed) (b .rest) (stepOf R w a) → StepCase R w a (stepOf R w a)
       go (spent l p q fits left) =
           let due = spent-due R (enough (w .n)) a 0 w (moves-enough g) g (sym (ap (λ r. r .answer) (fit-step R w a f)) ∙ p) in
-          spent-case (ap (λ t. answerNumbers t (r .walk) (r .trials) .number) p) under (omega (arith, needs)) (made ∙ q ∙ zero-add a) (due .0) (ap (λ r. moveAt R (r .walk .at) (r .walk)) (fit-step R w a f) ∙ due .1)
+          spent-case (ap (λ t. answerNumbers t (r .walk) (r .place) (r .trials) .number) p) under (omega (arith, needs)) (made ∙ q ∙ zero-add a) (due .0) (ap (λ r. moveAt R (r .walk .at) (r .walk)) (fit-step R w a f) ∙ due .1)
       go (given l p q fits left) =
-          given-case (no-number (r .answer) (r .walk) (r .trials) p) under (omega (arith, needs)) (made ∙ q ∙ zero-add (b .owed) ∙ sym needs)
+          given-case (no-number (r .answer) (r .walk) (r .place) (r .trials) p) under (omega (arith, needs)) (made ∙ q ∙ zero-add (b .owed) ∙ sym needs)
 
   pub step-case : StepCase R w a (stepOf R w a)
   unfolding stepOf

@@ -1,13 +1,14 @@
 -- For every list of steps a fit walk answers as the book of what it stands for; a fresh walk stands for the drawer's book.
 use mathlib.Core.Bool.{true}
-use mathlib.Core.List.{List, [], _∷_}
+use mathlib.Core.List.{List, [], _++_, _∷_}
 use mathlib.Core.Path.{ap, refl, _∙_, _≡_}
 use Prim.Native.Nat.{ℕ, _-_, _≤_}
 use native.Mathlib.Omega.{arith}
-use lib.ListN.{length, length-append, length-replicate}
+use lib.ListN.{drop, length, length-append, length-replicate, take}
 use lib.Seq.{drop-at, take-at}
 use Rattle.density.proofs.DrawerVerdicts.{accepted→}
-use Rattle.density.proofs.Binary.{Binary}
+use Rattle.density.proofs.Binary.{Binary, binary-test}
+use Rattle.density.proofs.PaddedRows.{→padded}
 use Rattle.listing.specs.Listing.{listing, listingAnswers}
 use Rattle.listing.specs.Totals.{listingLeft}
 use Rattle.refusal.specs.Verdicts.{accepted}
@@ -15,13 +16,13 @@ use Rattle.walk.proofs.Invariant.{Fit, sound-fit}
 use Rattle.walk.proofs.StepAgrees.{step-agrees}
 use Rattle.walk.specs.InnerCourse.{Sound}
 use Rattle.walk.specs.Fit.{fitAt}
-use Rattle.walk.specs.Moves.{Rules, rules}
+use Rattle.walk.specs.Moves.{Rules, keptOf, rules}
 use Rattle.walk.specs.Opening.{fresh, openVerdict}
 use Rattle.walk.specs.Step.{handed, stepOf, walkAnswers}
 use Rattle.walk.specs.ToCome.{linesAt, stands}
 use Rattle.walk.specs.declared.Walk.{Walk}
 use Rattle.words.proofs.HighestSymbol.{zeros-clean}
-use Rattle.words.specs.Symbols.{zeros}
+use Rattle.words.specs.Symbols.{allUpTo, zeros}
 
 pub answers-agree : (R : Rules) (w : Walk) → Fit R w → (allowances : List ℕ) → walkAnswers R w allowances ≡ listingAnswers (stands R w) allowances
 unfolding walkAnswers listingAnswers
@@ -61,6 +62,12 @@ module _ (R : Rules) (n d kind : ℕ) (limit : List ℕ) (o : Admitted R n d kin
       rest : List ℕ
       rest = zeros (R .most - n)
 
+      binary : Binary (take n (limit ++ rest))
+      binary = rw (take-at limit rest n (o .long)) (o .binary)
+
+      clean : allUpTo 0 (drop n (limit ++ rest)) ≡ true
+      clean = rw (drop-at limit rest n (o .long)) (zeros-clean 0 (R .most - n))
+
       sound : Sound R (fresh R n d kind limit)
       sound = record {
         some = o .stations;
@@ -68,13 +75,18 @@ module _ (R : Rules) (n d kind : ℕ) (limit : List ℕ) (o : Admitted R n d kin
         dense = o .dense;
         kinds = o .kinds;
         long = length-append limit rest ∙ rw (o .long, length-replicate) (omega (arith, o .most));
-        binary = rw (take-at limit rest n (o .long)) (o .binary);
-        clean = rw (drop-at limit rest n (o .long)) (zeros-clean 0 (R .most - n));
+        binary = binary;
+        clean = clean;
+        keeps = →padded n (limit ++ rest) (binary-test binary) clean;
       }
 
   pub fresh-stands : stands R (fresh R n d kind limit) ≡ listing n d (R .ofKind kind) limit
   unfolding stands linesAt listing
   fresh-stands = rw (take-at limit (zeros (R .most - n)) n (o .long))
+
+  -- the limit is kept
+  pub fresh-kept : keptOf (fresh R n d kind limit) ≡ limit
+  fresh-kept = take-at limit (zeros (R .most - n)) n (o .long)
 
 -- ---- what opening hands out, when it refuses nothing
 

@@ -9,10 +9,11 @@ use borrow.Author.Tests.{leb-true}
 use Rattle.density.proofs.Members.{isNecklaceOf→}
 use Rattle.density.proofs.PaddedRows.{padded-symbols, zero-test}
 use Rattle.density.specs.Necklaces.{begins, isKind, isNecklaceOf, ofKind}
+use Rattle.density.specs.Rows.{isPadded}
 use Rattle.refusal.proofs.Stations.{Sized, stations→}
 use Rattle.refusal.specs.Verdicts.{areStations, mostStations}
 use Rattle.walk.specs.InnerCourse.{Fitting}
-use Rattle.walk.specs.Fit.{fit, fitAt, fitRow, fitSizes}
+use Rattle.walk.specs.Fit.{fit, fitAt, fitRows, fitSizes}
 use Rattle.walk.specs.Moves.{rowOf, rules}
 use Rattle.walk.specs.declared.Standing.{Standing}
 use Rattle.walk.specs.declared.Standing.the-variants.{Down, Ended, Given, Up}
@@ -54,28 +55,34 @@ module _ (w : Walk) where
   unfolding fitAt
   at-given = refl
 
-  pub at-ended : (r : ℕ) → ((b : ℕ) → allUpTo b (w .row) ≡ leb r b) → eqb r 0 ≡ fitAt rules Ended w
+  pub at-ended : (allUpTo 0 (w .row) && allUpTo 0 (w .kept)) ≡ fitAt rules Ended w
   unfolding fitAt
-  at-ended r h = zero-test r ∙ sym (h 0)
+  at-ended = refl
 
   -- ---- all of it
 
-  by-record : fit rules w ≡ ((fitSizes rules w && fitRow w) && fitAt rules (w .at) w)
+  pub fit-no-sizes : fitSizes rules w ≡ false → fit rules w ≡ false
   unfolding fit
-  by-record = sym (and-assoc (fitSizes rules w) (fitRow w) (fitAt rules (w .at) w))
+  fit-no-sizes e = rw e
 
-  pub fit-no-record : (fitSizes rules w && fitRow w) ≡ false → fit rules w ≡ false
-  fit-no-record e = by-record ∙ rw e
+  module _ (e : fitSizes rules w ≡ true) where
+    pub fit-no-rows : fitRows w ≡ false → fit rules w ≡ false
+    unfolding fit
+    fit-no-rows f = rw (e, f)
 
-  pub fit-so-far : (fitSizes rules w && fitRow w) ≡ true → fitAt rules (w .at) w ≡ fit rules w
-  fit-so-far e = sym (by-record ∙ rw e)
+    pub fit-so-far : fitRows w ≡ true → fitAt rules (w .at) w ≡ fit rules w
+    unfolding fit
+    fit-so-far f = rw (e, f)
 
-  -- what the record's own tests show
-  pub record-fitting : (fitSizes rules w && fitRow w) ≡ true → length (w .row) ≡ mostStations → Fitting w
-  record-fitting e l =
-      let a = and→ (fitSizes rules w) (fitRow w) e in
-      let z = sizes→ (a .0) in
-      record { some = z .0 .some; most = z .0 .most; dense = z .1; long = l; symbols = padded-symbols (w .n) (w .row) (a .1) }
+    -- what these tests show
+    pub record-fitting : fitRows w ≡ true → length (w .row) ≡ mostStations → Fitting w
+    record-fitting f l =
+        let z = sizes→ e in
+        record { some = z .0 .some; most = z .0 .most; dense = z .1; long = l; symbols = padded-symbols (w .n) (w .row) (and→ (isPadded (w .n) (w .row)) (isPadded (w .n) (w .kept)) f .0) }
+
+-- the highest symbol of a row is 0
+pub all-zeros : (r : ℕ) (row : List ℕ) → ((b : ℕ) → allUpTo b row ≡ leb r b) → eqb r 0 ≡ allUpTo 0 row
+all-zeros r row h = zero-test r ∙ sym (h 0)
 
 -- a necklace of a density is a necklace
 pub is-necklace : (d : ℕ) (w : List ℕ) → isNecklaceOf d w ≡ true → isNecklace w ≡ true

@@ -9,6 +9,8 @@ pub mod Fuel
 pub mod StepAgrees
 pub mod Needed
 pub mod AnyStep
+-- the row kept, and the places
+pub mod KeptRow
 -- what the functions compute, step by step
 pub mod FitCases
 pub mod MoveByMove
@@ -18,6 +20,7 @@ pub mod StepLoop
 pub mod Tried
 -- demand 3, and what follows from it
 pub mod Demand
+pub mod Places
 pub mod GivenRing
 -- what is claimed in specs/
 pub mod FitFacts

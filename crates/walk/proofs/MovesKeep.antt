@@ -18,13 +18,14 @@ use Rattle.listing.proofs.Strikes.{strike-kept, strike-out, strike-raise}
 use Rattle.listing.specs.Listing.{raise, strike}
 use Rattle.walk.proofs.BelowLines.{below-lines, below-rows, last-lines, last-rows, none-lines}
 use Rattle.walk.proofs.MoveLines.{down-free, down-no-lines, down-no-rows, down-yes-lines, down-yes-rows, fixed, found-lines, found-rows, limit-no-lines, limit-no-rows, limit-yes-lines, up-lines, up-no-rows, up-yes-rows}
-use Rattle.walk.proofs.Invariant.{Fit, down-fit, ended-fit, given-fit, sound-at, sound-fit, sound-set, symbol, up-fit}
+use Rattle.walk.proofs.Invariant.{Fit, down-fit, ended-fit, given-fit, sound-answered, sound-at, sound-fit, sound-set, symbol, up-fit}
 use Rattle.walk.proofs.Simulation.{Keeps, keeps-answer, keeps-free, keeps-trial, said-row}
 use Rattle.walk.specs.InnerCourse.{Good, GoodAt, Sound, movesAt, size, sizeAt}
 use Rattle.walk.specs.Fit.{fitAt}
 use Rattle.walk.specs.Moves.{Move, Rules, answer, downMove, downTried, ended, foundMove, free, goneBelow, limitMove, moveAt, moved, rowOf, trial, upMove, upTried}
+use Rattle.walk.specs.Step.{answered}
 use Rattle.walk.specs.ToCome.{linesAt, rowsAt, stands}
-use Rattle.walk.specs.declared.Answer.the-variants.{None}
+use Rattle.walk.specs.declared.Answer.the-variants.{None, Ring}
 use Rattle.walk.specs.declared.Standing.{Standing}
 use Rattle.walk.specs.declared.Standing.the-variants.{Down, Ended, Given, Limit, Up}
 use Rattle.walk.specs.declared.Walk.{Walk}
@@ -144,7 +145,7 @@ module _ (R : Rules) where
       at-found : (b : Bool) → R .ofKind (w .kind) (rowOf w) ≡ b → Kept w (foundMove b w)
       unfolding stands size
       at-found true e =
-          keeps-answer (sound-fit (sound-at sound Given) (given-fit R (moved w (w .row) Given) (member-test i) e))
+          keeps-answer (sound-fit (sound-answered (sound-at sound Given) Ring) (given-fit R (answered Ring (moved w (w .row) Given)) (member-test i) e))
           (said-row (rowOf w) (omega (arith, sound .some, i .long)))
           (stands-here w (Up (suc (w .n))) at sound ∙ ap (strike (R .ofKind (w .kind))) (found-lines (w .n) (w .d) (w .row) long i)
           ∙ strike-kept (R .ofKind (w .kind)) (rowOf w) (linesAt Given (w .n) (w .d) (w .row)) e)

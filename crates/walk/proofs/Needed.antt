@@ -14,7 +14,7 @@ use Rattle.walk.proofs.Simulation.{Keeps, keeps-answer, keeps-free, kee
 use Rattle.walk.proofs.StepAgrees.{stands-closed}
 use Rattle.walk.specs.InnerCourse.{Good, size}
 use Rattle.walk.specs.Moves.{Move, Rules, moveAt, trial}
-use Rattle.walk.specs.Step.{after, enough, neededBy, neededIn, run, trialsNeeded}
+use Rattle.walk.specs.Step.{after, answered, enough, neededBy, neededIn, run, trialsNeeded}
 use Rattle.walk.specs.ToCome.{stands}
 use Rattle.walk.specs.declared.Answer.the-variants.{Refused}
 use Rattle.walk.specs.declared.Standing.the-variants.{Ended}
@@ -71,4 +71,4 @@ module _ (R : Rules) where
       go k q (keeps-free {v = v} gv p l) ih e = ih k t v (omega arith) gv e
       go zero q (keeps-trial {v = v} gv fw p l) ih e = (v, q)
       go (suc k) q (keeps-trial {v = v} gv fw p l) ih e = ih k (suc t) v (omega arith) gv e
-      go k q (keeps-answer {v = v} fv p r) ih e = absurd (refused≢line (sym (ap (λ a. saidAs a v) e) ∙ p))
+      go k q (keeps-answer {v = v} fv p r) ih e = absurd (refused≢line (sym (ap (λ a. saidAs a (answered a v)) e) ∙ p))

@@ -11,20 +11,23 @@ use Rattle.density.proofs.KindTests.{one-of}
 use Rattle.density.proofs.Wanted.{first-ring, next-ring, rings-falling}
 use Rattle.density.specs.Necklaces.{isKind, ofKind}
 use Rattle.listing.proofs.ListingLeft.{Remaining, ended→, left-few, left→said, named-wanted, none→, owed-few, remaining, ring→, said→left, spent→, to-come, →ended, →none, →paid, →ring, →spent}
+use Rattle.listing.proofs.PlacesNamed.{ring-places}
 use Rattle.listing.proofs.Prices.{raise-zero}
 use Rattle.listing.proofs.Strikes.{Closed, listing-closed}
 use Rattle.listing.proofs.Totalled.{listing-totals, starts-alike}
 use Rattle.listing.proofs.TrialBounds.{kind-1-prices, prices, starts-few}
 use Rattle.listing.specs.Listing.{Listing, book, listingAnswers, listingStep, over}
+use Rattle.listing.specs.Places.{leaving, ringPlaces}
 use Rattle.listing.specs.Totals.{AtMost, SaysNone, listingLeft, named, ringsOf}
 use Rattle.refusal.proofs.Conditions.{Tells, accepted-exactly, at-most-tells, chain-first, equal-tells, passed, stations-tell, test}
 use Rattle.refusal.specs.Conditions.{NoStations, NoneHolds}
 use Rattle.refusal.specs.Verdicts.{accepted}
-use Rattle.walk.proofs.Demand.{Admitted, accepted-opening, answers-agree, fresh-fit, fresh-stands, handed-stands, stays-fit}
+use Rattle.walk.proofs.Demand.{Admitted, accepted-opening, answers-agree, fresh-fit, fresh-kept, fresh-stands, handed-stands, stays-fit}
 use Rattle.walk.proofs.Invariant.{Fit}
+use Rattle.walk.proofs.Places.{answers-placed}
 use Rattle.walk.proofs.StepAgrees.{step-agrees}
-use Rattle.walk.specs.Claims.{Demand3, EndedNext, FirstRing, Kind1Trials, NamedAll, NamedFalling, NeverSpent, NeverUnfit, NextRing, NoneNext, OpenAccepts, OpenRefusals, Opening, RingNext, SpentNext, TakenAlike, TakenListed, Trials, TrialsNext, answers, bookOf, given, next, opened, wantedOf}
-use Rattle.walk.specs.Moves.{rules}
+use Rattle.walk.specs.Claims.{Demand3, Demand3Places, EndedNext, FirstRing, Kind1Trials, NamedAll, NamedFalling, NeverSpent, NeverUnfit, NextRing, NoneNext, OpenAccepts, OpenRefusals, Opening, RingNext, RingPlaces, SpentNext, TakenAlike, TakenListed, Trials, TrialsNext, answers, bookOf, given, next, opened, wantedOf}
+use Rattle.walk.specs.Moves.{keptOf, rules}
 use Rattle.walk.specs.Opening.{NoCondition, NoKind, fresh, openConditions, openVerdict, openWalk}
 use Rattle.walk.specs.Step.{handed}
 use Rattle.walk.specs.ToCome.{stands}
@@ -83,11 +86,20 @@ module _ (o : Opening) where
   opened-stands : stands rules (opened o) ≡ bookOf o
   opened-stands = ap (stands rules) same-walk ∙ fresh-stands rules (o .n) (o .d) (o .kind) (o .limit) admitted
 
+  opened-kept : keptOf (opened o) ≡ o .limit
+  opened-kept = ap keptOf same-walk ∙ fresh-kept rules (o .n) (o .d) (o .kind) (o .limit) admitted
+
   book-closed : Closed (bookOf o)
   book-closed = listing-closed (o .n) (o .d) (ofKind (o .kind)) (o .limit)
 
 pub demand-3 : Demand3
 demand-3 o steps = answers-agree rules (opened o) (opened-fit o) steps ∙ ap (λ l. listingAnswers l steps) (opened-stands o)
+
+pub demand-3-places : Demand3Places
+demand-3-places o steps = answers-placed rules steps (opened o) (opened-fit o) ∙ rw (opened-kept o, opened-stands o)
+
+pub places-of-rings : RingPlaces
+places-of-rings o steps = ap ringPlaces (demand-3-places o steps) ∙ ring-places (o .limit) (listingAnswers (bookOf o) steps) ∙ ap (λ t. leaving (o .limit) (named t)) (sym (demand-3 o steps))
 
 pub never-unfit : NeverUnfit
 never-unfit o steps = stays-fit rules (opened o) (opened-fit o) steps .test

@@ -9,18 +9,29 @@ use Rattle.walk.proofs.Fuel.{enough-some}
 use Rattle.walk.proofs.MovesKeep.{keeping}
 use Rattle.walk.proofs.MoveByMove.{Kept, kept-free, kept-trial, onward, onward-move}
 use Rattle.walk.proofs.Simulation.{run-ended}
-use Rattle.walk.specs.InnerCourse.{Good, Resumes, landed, rest, resumed, size}
+use Rattle.walk.specs.InnerCourse.{Good, Resumes, landed, rest, resumed, saying, size}
 use Rattle.walk.specs.Moves.{answer, free, moveAt, moved, rules, trial}
 use Rattle.walk.specs.Step.{after, enough, stepped}
 use Rattle.walk.specs.declared.Answer.{Answer}
-use Rattle.walk.specs.declared.Answer.the-variants.{Refused}
+use Rattle.walk.specs.declared.Answer.the-variants.{None, Refused, Ring}
 use Rattle.walk.specs.declared.Reached.{Reached}
 use Rattle.walk.specs.declared.Said.{Said}
-use Rattle.walk.specs.declared.Said.the-variants.{Nothing, Says}
+use Rattle.walk.specs.declared.Said.the-variants.{Nothing}
 use Rattle.walk.specs.declared.Standing.{Standing}
 use Rattle.walk.specs.declared.Standing.the-variants.{Ended, Given}
 use Rattle.walk.specs.declared.Walk.{Walk}
 use Rattle.words.proofs.Booleans.{clash}
+
+-- an answer is said
+pub saying-resumes : (x : Answer) (a k : ℕ) (w : Walk) → resumed (saying x) a k w ≡ stepped w x (a - k)
+saying-resumes Ring a k w = refl
+saying-resumes None a k w = refl
+saying-resumes (Refused r) a k w = refl
+
+not-silent : (x : Answer) → saying x ≡ Nothing → ⊥
+not-silent Ring e = clash (cc)
+not-silent None e = clash (cc)
+not-silent (Refused r) e = clash (cc)
 
 -- the step of w, with k trials left, comes to v with l left; both have the same sizes and kind
 pub record Comes (w : Walk) (k : ℕ) (v : Walk) (l : ℕ) : Type 0 where
@@ -71,9 +82,9 @@ module _ {w : Walk} {k : ℕ} {v : Walk} {l : ℕ} (c : Comes w k v l) where
 
   -- ---- what answers the step
 
-  says : (x : Answer) (r : Reached) → r .left ≡ l → r .said ≡ Says x → ((a : ℕ) → k ≤ a → rest a k w ≡ stepped (landed w r) x (a - l)) → Resumes w k r
+  says : (x : Answer) (r : Reached) → r .left ≡ l → r .said ≡ saying x → ((a : ℕ) → k ≤ a → rest a k w ≡ stepped (landed w r) x (a - l)) → Resumes w k r
   says x r e f q = record {
-    same = λ a h. q a h ∙ rw (f, e);
+    same = λ a h. q a h ∙ rw (f, e) (sym (saying-resumes x a l (landed w r)));
     fewer = rw e (c .fewer);
     good = λ z. absurd (silent z);
     given = λ z. absurd (silent z);
@@ -81,13 +92,13 @@ module _ {w : Walk} {k : ℕ} {v : Walk} {l : ℕ} (c : Comes w k v l) where
   }
     where
       silent : r .said ≡ Nothing → ⊥
-      silent z = clash (cc)
+      silent z = not-silent x (sym f ∙ z)
 
-  pub then-answer : (x : Answer) (r : Reached) → r .left ≡ l → r .said ≡ Says x → answer x (landed v r) ≡ moveAt rules (v .at) v → Resumes w k r
+  pub then-answer : (x : Answer) (r : Reached) → r .left ≡ l → r .said ≡ saying x → answer x (landed v r) ≡ moveAt rules (v .at) v → Resumes w k r
   then-answer x r e f q = says x r e f (λ a h. moving a h ∙ ap (λ m. after m l (a - l) v (onward rules)) (sym q) ∙ ap (λ u. stepped u x (a - l)) (sym (c .alike r)))
 
   -- a trial is due with none left
-  pub then-spent : (u : Walk) (r : Reached) → l ≡ 0 → trial u ≡ moveAt rules (v .at) v → landed v r ≡ v → r .left ≡ l → r .said ≡ Says (Refused Spent) → Resumes w k r
+  pub then-spent : (u : Walk) (r : Reached) → l ≡ 0 → trial u ≡ moveAt rules (v .at) v → landed v r ≡ v → r .left ≡ l → r .said ≡ saying (Refused Spent) → Resumes w k r
   then-spent u r z q i e f =
       says (Refused Spent) r e f
       (λ a h. moving a h ∙ ap (λ m. after m l (a - l) v (onward rules)) (sym q) ∙ go l z a ∙ ap (λ y. stepped y (Refused Spent) (a - l)) (sym (c .alike r ∙ i)))
@@ -124,7 +135,7 @@ module _ {w : Walk} {k : ℕ} {v : Walk} {l : ℕ} (c : Comes w k v l) where
 
 -- ---- a walk that has ended
 
-pub ended-resumes : (w : Walk) (k : ℕ) (r : Reached) → w .at ≡ Ended → landed w r ≡ w → r .left ≡ k → r .said ≡ Says (Refused HasEnded) → Resumes w k r
+pub ended-resumes : (w : Walk) (k : ℕ) (r : Reached) → w .at ≡ Ended → landed w r ≡ w → r .left ≡ k → r .said ≡ saying (Refused HasEnded) → Resumes w k r
 ended-resumes w k r e i l f = record {
   same = λ a h. run-ended rules w (enough (w .n)) k (a - k) (enough-some (w .n)) e ∙ ap (λ v. stepped v (Refused HasEnded) (a - k)) (sym i) ∙ rw (f, l);
   fewer = rw l (le-refl k);
@@ -134,4 +145,4 @@ ended-resumes w k r e i l f = record {
 }
   where
     silent : r .said ≡ Nothing → ⊥
-    silent z = clash (cc)
+    silent z = not-silent (Refused HasEnded) (sym f ∙ z)

@@ -8,7 +8,7 @@ use Rattle.listing.proofs.Strikes.{raised}
 use Rattle.listing.specs.Listing.{Line, Listing, Said, entry, raise, ring, says, told}
 use Rattle.refusal.specs.declared.Refusal.the-variants.{Ended as HasEnded, Spent}
 use Rattle.walk.specs.Moves.{Move, Rules, answer, free, moveAt, trial}
-use Rattle.walk.specs.Step.{after, answerNumbers, run, saidBy, stepped, toldBy}
+use Rattle.walk.specs.Step.{after, answerNumbers, answered, run, saidBy, stepped, toldBy}
 use Rattle.walk.specs.declared.Answer.{Answer}
 use Rattle.walk.specs.declared.Answer.the-variants.{None, Refused, Ring}
 use Rattle.walk.specs.declared.Standing.the-variants.{Ended}
@@ -17,12 +17,12 @@ use Rattle.walk.specs.declared.Walk.{Walk}
 
 -- an answer in the book's terms
 abbrev pub saidAs : Answer → Walk → Said
-saidAs a w = toldBy (answerNumbers a w 0) .said
+saidAs a w = toldBy (answerNumbers a w 0 0) .said
 
-pub told-as : (a : Answer) (w : Walk) (t : ℕ) → toldBy (answerNumbers a w t) ≡ told (saidAs a w) t
-told-as Ring w t = refl
-told-as None w t = refl
-told-as (Refused r) w t = refl
+pub told-as : (a : Answer) (w : Walk) (p t : ℕ) → toldBy (answerNumbers a w p t) ≡ told (saidAs a w) t
+told-as Ring w p t = refl
+told-as None w p t = refl
+told-as (Refused r) w p t = refl
 
 -- a row that is not empty is a ring
 pub said-row : (row : List ℕ) → 0 < length row → saidBy 0 row ≡ says (ring row)
@@ -40,7 +40,7 @@ module _ (R : Rules) (Good Fit : Walk → Type 0) (stands : Walk → Listing) (s
   pub data Keeps (w : Walk) : Move → Type 0 where
     keeps-free : {v : Walk} → Good v → stands w ≡ stands v → size v < size w → Keeps w (free v)
     keeps-trial : {v : Walk} → Good v → Fit w → stands w ≡ raise 1 (stands v) → size v < size w → Keeps w (trial v)
-    keeps-answer : {a : Answer} {v : Walk} {l : Line} → Fit v → saidAs a v ≡ says l → stands w ≡ entry l 0 (stands v) → Keeps w (answer a v)
+    keeps-answer : {a : Answer} {v : Walk} {l : Line} → Fit (answered a v) → saidAs a (answered a v) ≡ says l → stands w ≡ entry l 0 (stands (answered a v)) → Keeps w (answer a v)
 
   -- what k trials more make of a walk that owes o of them to s, after t
   pub data Ran (k t : ℕ) (s : Line) (o : ℕ) (rest : Listing) (r : Stepped) : Type 0 where

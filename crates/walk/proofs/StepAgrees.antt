@@ -83,12 +83,12 @@ module _ (R : Rules) (w : Walk) (a : ℕ) where
   as-listed : {s : Line} {o : ℕ} {rest : Listing} (r : Stepped) → stands R w ≡ entry s o rest → Ran R (Good R) (Fit R) (stands R) size a 0 s o rest r → Agrees R w a r
   unfolding listingStep
   as-listed {s} {o} r e (spent l p q f g) = record {
-    tells = rw (e, lt-ltb a o l) (told-as (r .answer) (r .walk) (r .trials) ∙ told-same (ap (λ t. saidAs t (r .walk)) p) (q ∙ zero-add a));
+    tells = rw (e, lt-ltb a o l) (told-as (r .answer) (r .walk) (r .place) (r .trials) ∙ told-same (ap (λ t. saidAs t (r .walk)) p) (q ∙ zero-add a));
     left = rw (e, lt-ltb a o l) g;
     fits = f;
   }
   as-listed {s} {o} r e (given l p q f g) = record {
-    tells = rw (e, le-ltb a o l) (told-as (r .answer) (r .walk) (r .trials) ∙ told-same p (q ∙ zero-add o));
+    tells = rw (e, le-ltb a o l) (told-as (r .answer) (r .walk) (r .place) (r .trials) ∙ told-same p (q ∙ zero-add o));
     left = rw (e, le-ltb a o l) g;
     fits = f;
   }

@@ -8,22 +8,24 @@ use native.Mathlib.Nat.{le-refl}
 use native.Mathlib.Omega.{arith}
 use lib.ListN.{length, take}
 use lib.Seq.{length-take-le, take-take}
+use Rattle.density.specs.Rows.{isPadded}
 use Rattle.prefix.proofs.CarriedLaws.{knows-fewer}
 use Rattle.prefix.specs.InnerCarried.{Knows, KnowsPrefixes}
 use Rattle.prefix.specs.declared.carried.Known.{Known}
 use Rattle.refusal.specs.declared.Refusal.the-variants.{Unfit}
 use Rattle.walk.proofs.Invariant.{Fit, fit-at, fit-sound}
 use Rattle.walk.proofs.MoveCases.{good-long, good-symbols}
-use Rattle.walk.proofs.StepAgrees.{fit-placed, fit-step}
-use Rattle.walk.specs.InnerCourse.{Fitting, Good, Informed, Resumes, before, landed, rest, resumed}
+use Rattle.walk.proofs.Resuming.{saying-resumes}
+use Rattle.walk.proofs.StepAgrees.{fit-placed, fit-step, step-agrees}
+use Rattle.walk.specs.InnerCourse.{Fitting, Good, Informed, Resumes, before, landed, rest, resumed, saying}
 use Rattle.walk.specs.Fit.{fit}
 use Rattle.walk.specs.Moves.{rowOf, rules}
-use Rattle.walk.specs.Step.{stepOf, stepped}
+use Rattle.walk.specs.Step.{answered, keeps, leaves, stepOf, stepped}
 use Rattle.walk.specs.declared.Answer.{Answer}
-use Rattle.walk.specs.declared.Answer.the-variants.{Refused}
+use Rattle.walk.specs.declared.Answer.the-variants.{Refused, Ring}
 use Rattle.walk.specs.declared.Reached.{Reached}
 use Rattle.walk.specs.declared.Said.{Said}
-use Rattle.walk.specs.declared.Said.the-variants.{Nothing, Says}
+use Rattle.walk.specs.declared.Said.the-variants.{Nothing}
 use Rattle.walk.specs.declared.Standing.{Standing}
 use Rattle.walk.specs.declared.Standing.the-variants.{Down, Ended, Given, Limit, Up}
 use Rattle.walk.specs.declared.Walk.{Walk}
@@ -39,6 +41,19 @@ unfit-step allowance w e = rw e
 pub record Going (first : Walk) (allowance : ℕ) (w : Walk) (left : ℕ) : Type 0 where
   pub fits : left ≤ allowance
   pub same : rest allowance left w ≡ stepOf rules first allowance
+
+-- ---- what is handed back
+
+-- an answer as the code puts it together: the walk with the row kept then, and the place
+pub returned : (v : Walk) (x : Answer) (kept : List ℕ) (p t : ℕ) → kept ≡ keeps x v → p ≡ leaves x v
+    → record { walk = record { n = v .n; d = v .d; kind = v .kind; row = v .row; at = v .at; kept = kept }; answer = x; place = p; trials = t } ≡ stepped v x t
+returned v x kept p t e f = rw (e, f)
+
+-- a ring that a step gives is a whole row, and zeros behind it
+pub ring-padded : (first : Walk) (allowance : ℕ) → Fit rules first → (v : Walk) (t : ℕ) → stepped v Ring t ≡ stepOf rules first allowance → (isPadded (v .n) (v .row) ≡ true) × (length (v .row) ≡ mostStations)
+ring-padded first allowance f v t e =
+    let g : Fit rules (answered Ring v) = subst (λ r. Fit rules (r .walk)) (sym e) (step-agrees rules first allowance f .fits) in
+    (fit-sound g .keeps, g .long)
 
 -- ---- the loop begins
 
@@ -68,7 +83,7 @@ module _ {w : Walk} (f : Fitting w) where
       )
 
 module _ (allowance : ℕ) (w : Walk) (e : fit rules w ≡ true) (l : length (w .row) ≡ mostStations) where
-  fitting : Fit rules w
+  pub fitting : Fit rules w
   fitting = record { test = e; long = l }
 
   pub first-informed : (prefixes : List ℕ) (known : Known) → KnowsPrefixes (rowOf w) prefixes → Knows (take (before (w .at) (w .n)) (w .row)) known → Informed w prefixes known
@@ -87,8 +102,8 @@ module _ {first : Walk} {allowance : ℕ} {w : Walk} {left : ℕ} (g : Going fir
   turn-same s e = sym (q .same allowance (g .fits) ∙ ap (λ t. resumed t allowance (r .left) (landed w r)) e) ∙ g .same
 
   -- the answer
-  pub turn-says : (x : Answer) → r .said ≡ Says x → stepped (landed w r) x (allowance - r .left) ≡ stepOf rules first allowance
-  turn-says x e = turn-same (Says x) e
+  pub turn-says : (x : Answer) → r .said ≡ saying x → stepped (landed w r) x (allowance - r .left) ≡ stepOf rules first allowance
+  turn-says x e = sym (saying-resumes x allowance (r .left) (landed w r)) ∙ turn-same (saying x) e
 
   -- a ring of another kind
   pub turn-again : r .said ≡ Nothing → Going first allowance (landed w r) (r .left)

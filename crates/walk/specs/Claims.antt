@@ -10,15 +10,21 @@ use Rattle.refusal.specs.Conditions.{FirstOf}
 use Rattle.refusal.specs.Verdicts.{accepted, mostStations}
 use Rattle.walk.specs.Fit.{FitRecord, fit}
 use Rattle.listing.specs.Listing.{Listing, Told, book, listingAnswers, listingStep, none, refused, ring, says}
-use Rattle.walk.specs.Moves.{moveAt, rules, trial}
+use Rattle.listing.specs.Places.{Placed, leaving, placesFrom, ringPlaces}
+use Rattle.walk.specs.Moves.{keptOf, moveAt, rowOf, rules, trial}
 use Rattle.walk.specs.Opening.{NoCondition, openConditions, openVerdict, openWalk}
-use Rattle.walk.specs.Step.{handed, stepDue, stepOf, toldBy, trialsNeeded, walkAnswers}
+use Rattle.walk.specs.Step.{handed, stepDue, stepOf, toldBy, trialsNeeded, walkAnswers, walkPlaced}
 use Rattle.walk.specs.ToCome.{stands}
 use Rattle.listing.specs.Totals.{AtMost, SaysNone, Starts, listingLeft, named, owed, totals}
+use Rattle.walk.specs.declared.Answer.{Answer}
+use Rattle.walk.specs.declared.Answer.the-variants.{None, Refused, Ring}
 use Rattle.walk.specs.declared.Standing.the-variants.{Ended}
+use Rattle.walk.specs.declared.Stepped.{Stepped}
 use Rattle.walk.specs.declared.Walk.{Walk}
+use Rattle.words.specs.Difference.{firstDifference}
 use Rattle.words.specs.Falling.{Falling, Highest}
 use Rattle.words.specs.Order.{le, lt}
+use Rattle.words.specs.Symbols.{zeros}
 
 -- ---- opening
 
@@ -72,6 +78,16 @@ AnsweredExactly =
     (w : Walk) (a : ℕ) → Record w → let s = stepDue rules w a in
     ((s .number ≡ 0) ↔ ((fit rules w ≡ true) × (w .at ≡ Ended → ⊥) × (trialsNeeded rules w ≤ a))) × (s .number ≡ 0 → s .trials ≡ trialsNeeded rules w)
 
+-- "A ring given is measured against [the kept row] and then replaces it. None carries 0 and makes the kept row zeros." A refused step
+-- carries 0 and leaves it as it was.
+abbrev pub KeptBy : Answer → Walk → Stepped → Type 0
+KeptBy Ring w r = (r .place ≡ firstDifference (keptOf w) (rowOf (r .walk))) × (r .walk .kept ≡ r .walk .row)
+KeptBy None w r = (r .place ≡ 0) × (r .walk .kept ≡ zeros (length (w .kept)))
+KeptBy (Refused x) w r = (r .place ≡ 0) × (r .walk .kept ≡ w .kept)
+
+abbrev pub KeptStep : Type 0
+KeptStep = (w : Walk) (a : ℕ) → let r = stepOf rules w a in KeptBy (r .answer) w r
+
 -- A step of a fit record is the book's step on what the record stands for, and the record that it hands back is fit.
 abbrev pub StepAsBook : Type 0
 StepAsBook =
@@ -108,6 +124,15 @@ answers o steps = walkAnswers rules (opened o) steps
 abbrev pub Demand3 : Type 0
 Demand3 = (o : Opening) (steps : List ℕ) → answers o steps ≡ listingAnswers (bookOf o) steps
 
+-- the answers, each with the place that it carries
+abbrev pub placedAnswers : Opening → List ℕ → List Placed
+placedAnswers o steps = walkPlaced rules (opened o) steps
+
+-- The same with places: answers, trials and places are those of the book and of the rule for places, "measured from the opened limit for
+-- the first answer and from the ring before for later ones".
+abbrev pub Demand3Places : Type 0
+Demand3Places = (o : Opening) (steps : List ℕ) → placedAnswers o steps ≡ placesFrom (o .limit) (listingAnswers (bookOf o) steps)
+
 -- every record handed back is fit
 abbrev pub NeverUnfit : Type 0
 NeverUnfit = (o : Opening) (steps : List ℕ) → fit rules (handed rules (opened o) steps) ≡ true
@@ -115,6 +140,11 @@ NeverUnfit = (o : Opening) (steps : List ℕ) → fit rules (handed rules (opene
 -- the rings given, in order
 abbrev pub given : Opening → List ℕ → List (List ℕ)
 given o steps = named (answers o steps)
+
+-- The places of the rings given are those of the rings one after the other, the first against the limit: "a spent allowance doesn't lose
+-- it", however many steps a ring was asked for in.
+abbrev pub RingPlaces : Type 0
+RingPlaces = (o : Opening) (steps : List ℕ) → ringPlaces (placedAnswers o steps) ≡ leaving (o .limit) (given o steps)
 
 -- the first ring is the highest of the drawer and kind at or below the limit
 abbrev pub FirstRing : Type 0

@@ -7,6 +7,7 @@ use Prim.Native.Nat.{ℕ, suc, zero, _*_, _+_, _-_, _<_, _≤_}
 use lib.ListN.{drop, length, take}
 use Rattle.density.proofs.Binary.{Binary}
 use Rattle.density.specs.Necklaces.{begins, isNecklaceOf}
+use Rattle.density.specs.Rows.{isPadded}
 use Rattle.prefix.specs.InnerCarried.{Knows, KnowsPrefixes}
 use Rattle.prefix.specs.declared.carried.Known.{Known}
 use Rattle.words.specs.Symbols.{Within, allUpTo}
@@ -14,9 +15,11 @@ use Rattle.refusal.specs.Verdicts.{mostStations}
 use Rattle.walk.specs.Moves.{Rules, moved, rowOf, rules}
 use Rattle.walk.specs.Step.{enough, run, stepped}
 use Rattle.walk.specs.ToCome.{rowsAt}
+use Rattle.walk.specs.declared.Answer.{Answer}
+use Rattle.walk.specs.declared.Answer.the-variants.{None, Refused, Ring}
 use Rattle.walk.specs.declared.Reached.{Reached}
 use Rattle.walk.specs.declared.Said.{Said}
-use Rattle.walk.specs.declared.Said.the-variants.{Nothing, Says}
+use Rattle.walk.specs.declared.Said.the-variants.{None as SaysNone, Nothing, Refused as SaysRefused, Ring as SaysRing}
 use Rattle.walk.specs.declared.Standing.{Standing}
 use Rattle.walk.specs.declared.Standing.the-variants.{Limit, Down, Up, Given, Ended}
 use Rattle.walk.specs.declared.Stepped.{Stepped}
@@ -24,7 +27,7 @@ use Rattle.walk.specs.declared.Walk.{Walk}
 
 -- ---- records on the way
 
--- sizes in range, a whole row of zeros and ones, and zeros behind it
+-- sizes in range, a whole row of zeros and ones, and zeros behind it; the row kept is one too
 pub record Sound (R : Rules) (w : Walk) : Type 0 where
   pub some : 1 ≤ w .n
   pub most : w .n ≤ R .most
@@ -33,6 +36,7 @@ pub record Sound (R : Rules) (w : Walk) : Type 0 where
   pub long : length (w .row) ≡ R .most
   pub binary : Binary (rowOf w)
   pub clean : allUpTo 0 (drop (w .n) (w .row)) ≡ true
+  pub keeps : isPadded (w .n) (w .kept) ≡ true
 
 -- Down 0 and Up (n + 1) too, and Given with a ring of another kind
 abbrev pub GoodAt : Standing → Walk → Type 0
@@ -101,10 +105,18 @@ rest a k w = run rules (enough (w .n)) k (a - k) w
 abbrev pub landed : Walk → Reached → Walk
 landed w r = moved w (r .row) (r .at)
 
+-- the step's answer, as a part of it says it
+abbrev pub saying : Answer → Said
+saying Ring = SaysRing
+saying None = SaysNone
+saying (Refused r) = SaysRefused r
+
 -- the step goes on from there, or has its answer
 abbrev pub resumed : Said → ℕ → ℕ → Walk → Stepped
 resumed Nothing a k w = rest a k w
-resumed (Says x) a k w = stepped w x (a - k)
+resumed SaysRing a k w = stepped w Ring (a - k)
+resumed SaysNone a k w = stepped w None (a - k)
+resumed (SaysRefused r) a k w = stepped w (Refused r) (a - k)
 
 -- r is on the way of w's step, with that many trials left; where nothing is said, at a ring of another kind, with fewer moves to come
 pub record Resumes (w : Walk) (left : ℕ) (r : Reached) : Type 0 where

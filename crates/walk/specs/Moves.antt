@@ -31,13 +31,17 @@ pub data Move : Type 0 where
   trial : Walk → Move
   answer : Answer → Walk → Move
 
--- the walk with another row, standing elsewhere
+-- the walk with another row, standing elsewhere; the row kept stays
 abbrev pub moved : Walk → List ℕ → Standing → Walk
-moved w row at = record { n = w .n; d = w .d; kind = w .kind; row = row; at = at }
+moved w row at = record { n = w .n; d = w .d; kind = w .kind; row = row; at = at; kept = w .kept }
 
 -- its row, without what lies after place n
 abbrev pub rowOf : Walk → List ℕ
 rowOf w = take (w .n) (w .row)
+
+-- the row kept, likewise: the one that the next ring is measured from
+abbrev pub keptOf : Walk → List ℕ
+keptOf w = take (w .n) (w .kept)
 
 -- "Limit: a row in drawer (n, d) is found; otherwise Down n."
 abbrev pub limitMove : Bool → Walk → Move

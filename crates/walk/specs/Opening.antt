@@ -12,13 +12,13 @@ use Rattle.walk.specs.Moves.{Rules}
 unfoldable pub use Rattle.density.specs.Drawers.{openVerdict}
 pub use Rattle.density.specs.Drawers.{NoCondition, NoKind, openConditions}
 
--- the walk that an accepted opening hands out: it stands at the limit, and zeros follow it
+-- the walk that an accepted opening hands out: it stands at the limit, and zeros follow it. "Opening sets [the kept row] to the limit."
 abbrev pub fresh : Rules → ℕ → ℕ → ℕ → List ℕ → Walk
-fresh R n d kind limit = record { n = n; d = d; kind = kind; row = limit ++ zeros (R .most - n); at = Limit }
+fresh R n d kind limit = record { n = n; d = d; kind = kind; row = limit ++ zeros (R .most - n); at = Limit; kept = limit ++ zeros (R .most - n) }
 
 -- "A refused opening hands back the Ended walk of (1, 0), kind 1."
 abbrev pub refusedWalk : Rules → Walk
-refusedWalk R = record { n = 1; d = 0; kind = 1; row = zeros (R .most); at = Ended }
+refusedWalk R = record { n = 1; d = 0; kind = 1; row = zeros (R .most); at = Ended; kept = zeros (R .most) }
 
 -- the walk that is handed back
 abbrev pub openWalk : Verdict → Rules → ℕ → ℕ → ℕ → List ℕ → Walk

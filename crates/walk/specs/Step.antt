@@ -2,18 +2,43 @@
 use mathlib.Core.Bool.{Bool, true, false}
 use mathlib.Core.List.{List, [], _∷_}
 use Prim.Native.Nat.{ℕ, zero, suc, _+_, _*_, _^_}
+use lib.ListN.{length}
+use Rattle.words.specs.Difference.{firstDifference}
+use Rattle.words.specs.Symbols.{zeros}
 use Rattle.refusal.specs.declared.Refusal.the-variants.{Spent, Unfit}
 use Rattle.refusal.specs.Refusals.{numberOf, placeOf}
 use Rattle.walk.specs.declared.Walk.{Walk}
 use Rattle.walk.specs.declared.Answer.{Answer}
 use Rattle.walk.specs.declared.Answer.the-variants.{Ring, None, Refused}
 use Rattle.walk.specs.declared.Stepped.{Stepped}
-use Rattle.walk.specs.Moves.{Rules, Move, free, trial, answer, moveAt, rowOf}
+use Rattle.walk.specs.Moves.{Rules, Move, free, trial, answer, keptOf, moveAt, rowOf}
 use Rattle.walk.specs.Fit.{fit}
 use Rattle.listing.specs.Listing.{Said, says, ring, none, refused, Told, told}
+use Rattle.listing.specs.Places.{Placed, placed}
 
+-- ---- the answer, and the row kept
+
+-- the place that an answer carries: where a ring first differs from the row kept, and 0 else
+abbrev pub leaves : Answer → Walk → ℕ
+leaves Ring w = firstDifference (keptOf w) (rowOf w)
+leaves None w = 0
+leaves (Refused r) w = 0
+
+-- "A ring given is measured against it and then replaces it. None carries 0 and makes the kept row zeros."
+abbrev pub keeps : Answer → Walk → List ℕ
+keeps Ring w = w .row
+keeps None w = zeros (length (w .kept))
+keeps (Refused r) w = w .kept
+
+-- the walk after an answer
+abbrev pub answered : Answer → Walk → Walk
+answered a w = record { n = w .n; d = w .d; kind = w .kind; row = w .row; at = w .at; kept = keeps a w }
+
+-- what a step hands back that has come to w and answers so, after t trials
 abbrev pub stepped : Walk → Answer → ℕ → Stepped
-stepped w a t = record { walk = w; answer = a; trials = t }
+stepped w a t = record { walk = answered a w; answer = a; place = leaves a w; trials = t }
+
+-- ---- the moves
 
 -- one move, with k trials allowed and t made; `on` takes the walk further
 abbrev pub after : Move → ℕ → ℕ → Walk → (ℕ → ℕ → Walk → Stepped) → Stepped
@@ -58,21 +83,22 @@ trialsNeeded R w = neededIn R (enough (w .n)) w
 
 -- ---- document 01's numbers
 
--- a refusal's number, 0 for none, and its place; the ring's row, empty where no ring is given; the trials
+-- a refusal's number, 0 for none, and its place; the ring's row, empty where no ring is given, and the place that it carries; the trials
 pub record StepNumbers : Type 0 where
   pub number : ℕ
   pub place : ℕ
   pub row : List ℕ
+  pub leaves : ℕ
   pub trials : ℕ
 
 -- the numbers of each case of the answer: "each step returns the number [of trials] it made", refused or not
-abbrev pub answerNumbers : Answer → Walk → ℕ → StepNumbers
-answerNumbers Ring w t = record { number = 0; place = 0; row = rowOf w; trials = t }
-answerNumbers None w t = record { number = 0; place = 0; row = []; trials = t }
-answerNumbers (Refused r) w t = record { number = numberOf r; place = placeOf r; row = []; trials = t }
+abbrev pub answerNumbers : Answer → Walk → ℕ → ℕ → StepNumbers
+answerNumbers Ring w p t = record { number = 0; place = 0; row = rowOf w; leaves = p; trials = t }
+answerNumbers None w p t = record { number = 0; place = 0; row = []; leaves = p; trials = t }
+answerNumbers (Refused r) w p t = record { number = numberOf r; place = placeOf r; row = []; leaves = p; trials = t }
 
 abbrev pub stepNumbers : Stepped → StepNumbers
-stepNumbers s = answerNumbers (s .answer) (s .walk) (s .trials)
+stepNumbers s = answerNumbers (s .answer) (s .walk) (s .place) (s .trials)
 
 -- the numbers that are due
 abbrev pub stepDue : Rules → Walk → ℕ → StepNumbers
@@ -92,6 +118,11 @@ toldBy s = told (saidBy (s .number) (s .row)) (s .trials)
 unfoldable pub walkAnswers : Rules → Walk → List ℕ → List Told
 walkAnswers R w [] = []
 walkAnswers R w (a ∷ more) = toldBy (stepDue R w a) ∷ walkAnswers R (stepOf R w a .walk) more
+
+-- the same, each with the place that it carries
+unfoldable pub walkPlaced : Rules → Walk → List ℕ → List Placed
+walkPlaced R w [] = []
+walkPlaced R w (a ∷ more) = let s = stepDue R w a in placed (toldBy s) (s .leaves) ∷ walkPlaced R (stepOf R w a .walk) more
 
 -- the record that the last of these steps handed back
 unfoldable pub handed : Rules → Walk → List ℕ → Walk

@@ -1,5 +1,4 @@
 // The parts of a step. Each hands back where it has come to, and the step goes on from there.
-use crate::Answer;
 use crate::Reached;
 use crate::Said;
 use crate::Standing;
@@ -31,7 +30,7 @@ impl Walk {
                 row,
                 at,
                 left,
-                said: Said::Says(Answer::Refused(Refusal::Ended)),
+                said: Said::Refused(Refusal::Ended),
             },
         }
     }
@@ -117,7 +116,7 @@ impl Walk {
                         row,
                         at: Standing::Down(p),
                         left,
-                        said: Said::Says(Answer::Refused(Refusal::Spent)),
+                        said: Said::Refused(Refusal::Spent),
                     };
                 }
                 left -= 1;
@@ -161,7 +160,7 @@ impl Walk {
                     row,
                     at: Standing::Up(p),
                     left,
-                    said: Said::Says(Answer::Refused(Refusal::Spent)),
+                    said: Said::Refused(Refusal::Spent),
                 };
             }
             left -= 1;
@@ -194,7 +193,7 @@ impl Walk {
                 row,
                 at: Standing::Given,
                 left,
-                said: Said::Says(Answer::Ring),
+                said: Said::Ring,
             };
         }
         Reached {
@@ -214,7 +213,7 @@ impl Walk {
             row: [0u8; refusal::MOST_STATIONS],
             at: Standing::Ended,
             left,
-            said: Said::Says(Answer::None),
+            said: Said::None,
         }
     }
 }

@@ -5,12 +5,11 @@ use density::drawers::Checked;
 use prefix::carried::Known;
 use refusal::Refusal;
 ghost use mathlib.Core.Path.{_≡_};
-ghost use mathlib.Core.Bool.{_&&_};
 ghost use Prim.Native.Nat.{_-_};
 ghost use lib.ListN.{take};
 ghost use Rattle.prefix.specs.InnerCarried.{Knows};
 ghost use Rattle.walk.specs.Moves.{rules};
-ghost use Rattle.walk.specs.Fit.{fitSizes, fitRow, fitAt};
+ghost use Rattle.walk.specs.Fit.{fitSizes, fitAt};
 ghost use Rattle.walk.specs.Step.{stepDue, stepNumbers, stepOf, stepped};
 ghost use Rattle.walk.specs.Opening.{openOutcome, openVerdict, openWalk, refusedWalk};
 ghost use Rattle.walk.specs.InnerCourse.{Fitting, before};
@@ -25,13 +24,15 @@ pub enum Standing {
     Ended,
 }
 
-// A walk: length, density, kind, the row and the standing. It is taken in and handed back by each step.
+// A walk: length, density, kind, the row, the standing, and the row kept, from which the next ring is measured: the limit, then the ring
+// last given. It is taken in and handed back by each step.
 pub struct Walk {
     pub n: usize,
     pub d: usize,
     pub kind: u8,
     pub row: [u8; refusal::MOST_STATIONS],
     pub at: Standing,
+    pub kept: [u8; refusal::MOST_STATIONS],
 }
 
 // What a step says. A ring is the walk's row.
@@ -41,10 +42,11 @@ pub enum Answer {
     Refused(Refusal),
 }
 
-// What a step hands back.
+// What a step hands back. The place is where a ring leaves the row that was kept; it is 0 where they are equal and where no ring is given.
 pub struct Stepped {
     pub walk: Walk,
     pub answer: Answer,
+    pub place: usize,
     pub trials: u64,
 }
 
@@ -63,7 +65,9 @@ pub struct Opened {
 // What a part of a step says: nothing, or the step's answer.
 pub enum Said {
     Nothing,
-    Says(Answer),
+    Ring,
+    None,
+    Refused(Refusal),
 }
 
 // Where a part of a step has brought a walk, with the trials left.
@@ -99,6 +103,7 @@ impl Walk {
             kind: 1,
             row,
             at: Standing::Ended,
+            kept: row,
         }
     }
 
@@ -121,6 +126,7 @@ impl Walk {
             kind,
             row,
             at: Standing::Limit,
+            kept: row,
         };
         Opened {
             walk,
@@ -128,23 +134,19 @@ impl Walk {
         }
     }
 
-    // n, d, the kind and the symbols are in range.
-    fn fit_record(self) -> bool
-        ensures { λ r. ⌜ r ≡ (fitSizes rules self && fitRow self) ⌝ }
+    // n, d and the kind are in range.
+    fn fit_sizes(self) -> bool
+        ensures { λ r. ⌜ r ≡ fitSizes rules self ⌝ }
     {
         let n = self.n;
         let d = self.d;
         let kind = self.kind;
-        let row = self.row;
-        refusal::are_stations(n)
-            && d <= n
-            && density::kinds::is_kind(kind)
-            && density::rows::is_padded(&row, n)
+        refusal::are_stations(n) && d <= n && density::kinds::is_kind(kind)
     }
 
-    // The row fits where the walk stands. The symbols before that place are known.
-    fn fit_at(self, known: Known) -> bool
-        requires { ⌜ Fitting self × Knows (take (before (self .at) (self .n)) (self .row)) known ⌝ }
+    // The rows fit where the walk stands. The symbols before that place are known; `kept` is the row kept.
+    fn fit_at(self, kept: &[u8], known: Known) -> bool
+        requires { ⌜ Fitting self × Knows (take (before (self .at) (self .n)) (self .row)) known × (now kept ≡ self .kept) ⌝ }
         ensures { λ r. ⌜ r ≡ fitAt rules (self .at) self ⌝ }
     {
         let n = self.n;
@@ -159,7 +161,9 @@ impl Walk {
             Standing::Given => {
                 known.is_necklace_of(d, &row[..n]) && known.is_of_kind(kind, &row[..n])
             }
-            Standing::Ended => density::rows::highest(&row) == 0,
+            Standing::Ended => {
+                density::rows::highest(&row) == 0 && density::rows::highest(kept) == 0
+            }
         }
     }
 
@@ -185,6 +189,7 @@ impl Walk {
         Stepped {
             walk: self,
             answer: Answer::Refused(Refusal::Unfit),
+            place: 0,
             trials: 0,
         }
     }
@@ -194,17 +199,21 @@ impl Walk {
         ensures answer { λ r. ⌜ r ≡ stepOf rules self allowance ⌝ }
         ensures numbers { λ r. ⌜ stepNumbers r ≡ stepDue rules self allowance ⌝ }
     {
-        if !self.fit_record() {
+        if !self.fit_sizes() {
             return self.unfit();
         }
         let n = self.n;
+        let kept = self.kept;
         let mut row = self.row;
+        if !density::rows::are_padded(&row, &kept, n) {
+            return self.unfit();
+        }
         let mut at = self.at;
         let mut left = allowance;
         let mut prefixes = prefix::carried::prefixes_of(&row[..n]);
         let m = self.before();
         let mut known = Known::read(&prefixes, &row[..m]);
-        if !self.fit_at(known) {
+        if !self.fit_at(&kept, known) {
             return self.unfit();
         }
         loop {
@@ -213,14 +222,51 @@ impl Walk {
             row = reached.row;
             at = reached.at;
             left = reached.left;
+            let trials = allowance - left;
             let said = reached.said;
-            if let Said::Says(answer) = said {
-                let walk = Walk { row, at, ..self };
-                return Stepped {
-                    walk,
-                    answer,
-                    trials: allowance - left,
-                };
+            match said {
+                // measured from the row kept, which it replaces
+                Said::Ring => {
+                    let place = density::rows::first_difference(&kept, &row);
+                    return Stepped {
+                        walk: Walk {
+                            row,
+                            at,
+                            kept: row,
+                            ..self
+                        },
+                        answer: Answer::Ring,
+                        place,
+                        trials,
+                    };
+                }
+                Said::None => {
+                    return Stepped {
+                        walk: Walk {
+                            row,
+                            at,
+                            kept: [0u8; refusal::MOST_STATIONS],
+                            ..self
+                        },
+                        answer: Answer::None,
+                        place: 0,
+                        trials,
+                    };
+                }
+                Said::Refused(r) => {
+                    return Stepped {
+                        walk: Walk {
+                            row,
+                            at,
+                            kept,
+                            ..self
+                        },
+                        answer: Answer::Refused(r),
+                        place: 0,
+                        trials,
+                    };
+                }
+                Said::Nothing => {}
             }
             // a ring of another kind was found
             prefixes = prefix::carried::prefixes_of(&row[..n]);

@@ -7,11 +7,13 @@ ghost use Rattle.refusal.specs.Verdicts.{mostStations};
 // More trials than any run here makes.
 const ALLOWANCE: u64 = 1000000000000;
 
-fn print_counts(rings: u64, trials: u64) {
+fn print_counts(rings: u64, trials: u64, places: usize) {
     io::print_decimal(1, rings);
     io::write_all(1, b" rings ");
     io::print_decimal(1, trials);
-    io::write_all(1, b" trials\n");
+    io::write_all(1, b" trials ");
+    io::print_decimal(1, places as u64);
+    io::write_all(1, b" places\n");
 }
 
 // The allowance is one for the whole walk: what a step made is not allowed to the next.
@@ -23,6 +25,7 @@ fn walk_drawer(n: usize, d: usize, kind: u8, most: u64)
     let mut walk = opened.walk;
     let mut left = ALLOWANCE;
     let mut rings: u64 = 0;
+    let mut places: usize = 0;
     while rings < most {
         let stepped = walk.step(left);
         if left < stepped.trials {
@@ -30,13 +33,14 @@ fn walk_drawer(n: usize, d: usize, kind: u8, most: u64)
         }
         left -= stepped.trials;
         walk = stepped.walk;
+        places = std::num::wrapping_add_usize(places, stepped.place);
         let answer = stepped.answer;
         match answer {
             Answer::Ring => {
                 rings += 1;
             }
             Answer::None => {
-                print_counts(rings, ALLOWANCE - left);
+                print_counts(rings, ALLOWANCE - left, places);
                 return;
             }
             Answer::Refused(_) => {
@@ -44,7 +48,7 @@ fn walk_drawer(n: usize, d: usize, kind: u8, most: u64)
             }
         }
     }
-    print_counts(rings, ALLOWANCE - left);
+    print_counts(rings, ALLOWANCE - left, places);
 }
 
 fn wide(x: u8) -> usize {

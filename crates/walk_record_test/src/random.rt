@@ -112,8 +112,27 @@ fn standing(index: usize, n: usize) -> Standing
     }
 }
 
+// The row kept: the record's own row, zeros for most that are ended, or another.
+fn kept(
+    index: usize,
+    n: usize,
+    own: [u8; refusal::MOST_STATIONS],
+    at: Standing,
+) -> [u8; refusal::MOST_STATIONS]
+    requires { ⌜ index < 500000 ⌝ }
+{
+    let x = drawn(index, 73, 8);
+    if x < 2 {
+        return own;
+    }
+    if x < 7 && test_walks::standing_number(at) == 4 {
+        return [0u8; refusal::MOST_STATIONS];
+    }
+    row(index + 500000, n)
+}
+
 fn record(index: usize) -> Walk
-    requires { ⌜ index < 1000000 ⌝ }
+    requires { ⌜ index < 500000 ⌝ }
 {
     let n = stations(index);
     let row = row(index, n);
@@ -125,6 +144,7 @@ fn record(index: usize) -> Walk
         kind: kind(index),
         row,
         at,
+        kept: kept(index, n, row, at),
     }
 }
 
@@ -138,7 +158,7 @@ fn allowance(index: usize) -> u64
 
 // Steps of the records from one number up to another.
 fn step_records(from: usize, to: usize) -> Outcomes
-    requires { ⌜ to ≤ 1000000 ⌝ }
+    requires { ⌜ to ≤ 500000 ⌝ }
 {
     let mut outcomes = outcomes::nothing();
     let mut index = from;
@@ -150,7 +170,7 @@ fn step_records(from: usize, to: usize) -> Outcomes
 }
 
 fn show_records(from: usize, to: usize)
-    requires { ⌜ to ≤ 1000000 ⌝ }
+    requires { ⌜ to ≤ 500000 ⌝ }
 {
     test_rows::print_named(b"at random, records ", from);
     test_rows::print_named(b" up to ", to);

@@ -4,10 +4,13 @@ use walk::Standing;
 use walk::Stepped;
 use walk::Walk;
 
-// The row of 64 bytes that begins with some digits.
-fn row_of(digits: &[u8]) -> [u8; refusal::MOST_STATIONS] {
-    let symbols = cases::symbols(digits);
+// The row of 64 bytes that begins with the digits of word k; zeros where there is no such word.
+fn row_of(fields: &[u8], k: usize) -> [u8; refusal::MOST_STATIONS] {
     let mut row = [0u8; refusal::MOST_STATIONS];
+    if test_rows::count(fields, b' ') < k {
+        return row;
+    }
+    let symbols = cases::symbols(cases::word(fields, k));
     let mut i: usize = 0;
     while i < refusal::MOST_STATIONS {
         row[i] = symbols[i];
@@ -41,6 +44,14 @@ fn print_said(said: u8) {
     }
 }
 
+// The place that a step carries, and the row kept after it.
+fn print_kept(step: Stepped) {
+    let after = step.walk;
+    let kept = after.kept;
+    test_rows::print_filled(b" carries # kept ", &[step.place]);
+    test_rows::print_row(after.n, &kept);
+}
+
 fn print_step(w: Walk, step: Stepped) {
     let after = step.walk;
     let row = after.row;
@@ -51,13 +62,15 @@ fn print_step(w: Walk, step: Stepped) {
     test_rows::print_filled(b" trials # row ", &[step.trials as usize]);
     test_rows::print_row(after.n, &row);
     test_rows::print_filled(
-        b" standing # place # unchanged",
+        b" standing # place #",
         &[standing, test_walks::standing_place(at)],
     );
+    print_kept(step);
+    io::write_all(1, b" unchanged");
     test_walks::print_truth(test_walks::same_walk(w, after));
 }
 
-// A line is a name, then stations, holes, kind, standing, its place, and the row as digits.
+// A line is a name, then stations, holes, kind, standing, its place, and as digits the row and the row kept.
 fn show(line: &[u8]) {
     let fields = cases::piece(line, b':', 1);
     let n = cases::number(fields, 1);
@@ -67,13 +80,15 @@ fn show(line: &[u8]) {
         cases::first_byte(cases::word(fields, 4)),
         cases::number(fields, 5),
     );
-    let row = row_of(cases::word(fields, 6));
+    let row = row_of(fields, 6);
+    let kept = row_of(fields, 7);
     let w = Walk {
         n,
         d,
         kind,
         row,
         at,
+        kept,
     };
     io::write_all(1, cases::piece(line, b':', 0));
     print_step(w, w.step(1000));
@@ -89,7 +104,7 @@ fn show_lines(text: &[u8]) {
 }
 
 pub fn show_single() {
-    // sizes and bytes, then standings, then fit records
+    // sizes and bytes, then standings, then rows kept, then fit records
     show_lines(
         b"stations 0: 0 0 1 Limit 0 \n\
           stations 65: 65 0 1 Limit 0 \n\
@@ -119,6 +134,15 @@ pub fn show_single() {
           Given, with symmetry: 4 2 2 Given 0 0101\n\
           Ended, last symbol 1: 3 1 1 Ended 0 001\n\
           Ended, byte 1 after: 3 1 1 Ended 0 0001\n\
+          kept byte 2 first: 3 1 1 Limit 0 001 201\n\
+          kept byte 2 last: 3 1 1 Down 3 001 002\n\
+          kept byte 1 after: 3 1 1 Given 0 001 0011\n\
+          kept byte 2 after: 3 1 1 Up 2 001 00002\n\
+          kept byte 1 at the end: 3 1 1 Limit 0 001 0010000000000000000000000000000000000000000000000000000000000001\n\
+          kept byte 2 of 64: 64 0 1 Limit 0 0 0000000000000000000000000000000000000000000000000000000000000002\n\
+          Ended, kept 1 first: 3 1 1 Ended 0 000 1\n\
+          Ended, kept 1 last: 3 1 1 Ended 0 000 001\n\
+          Ended, kept 1 after: 3 1 1 Ended 0 000 0001\n\
           Down 3 of 3: 3 1 1 Down 3 111\n\
           Down 1: 3 1 1 Down 1 000\n\
           Up 4 after 001: 8 3 1 Up 4 00100000\n\
@@ -126,6 +150,19 @@ pub fn show_single() {
           Given, of kind 1: 4 2 1 Given 0 0101\n\
           Given, without holes: 3 0 1 Given 0 000\n\
           Limit, other holes: 8 3 1 Limit 0 11111111\n\
-          Ended: 3 1 1 Ended 0 000\n",
+          Ended: 3 1 1 Ended 0 000\n\
+          kept not shelved, of other holes: 8 3 1 Limit 0 00011000 11111111\n\
+          kept the limit: 8 3 1 Limit 0 00011000 00011000\n\
+          kept the ring found: 8 3 1 Limit 0 00011000 00010101\n\
+          kept lower than the ring: 8 3 1 Down 8 00100100 00000001\n\
+          kept the ring but for its last symbol: 8 3 1 Up 4 00100000 00100100\n\
+          kept the ring given: 8 3 1 Given 0 00010101 00010101\n\
+          kept another than the ring given: 8 3 1 Given 0 00010101 00011111\n\
+          kept another than the limit found: 8 3 1 Limit 0 00010101 00100101\n\
+          kept before none: 8 3 1 Limit 0 00000110 10101010\n\
+          kept before none, without holes: 3 0 1 Given 0 000 111\n\
+          kept symmetric, of kind 2: 4 2 2 Limit 0 0101 0101\n\
+          kept of 64, other last: 64 64 1 Limit 0 1111111111111111111111111111111111111111111111111111111111111111 \
+            1111111111111111111111111111111111111111111111111111111111111110\n",
     );
 }

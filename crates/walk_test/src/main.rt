@@ -19,6 +19,7 @@ struct Counts {
     rings: usize,
     trials: usize,
     spent: usize,
+    places: usize,
     differing: usize,
 }
 
@@ -28,6 +29,7 @@ fn sum(a: Counts, b: Counts) -> Counts {
         rings: test_walks::plus(a.rings, b.rings),
         trials: test_walks::plus(a.trials, b.trials),
         spent: test_walks::plus(a.spent, b.spent),
+        places: test_walks::plus(a.places, b.places),
         differing: test_walks::plus(a.differing, b.differing),
     }
 }
@@ -38,6 +40,7 @@ fn nothing() -> Counts {
         rings: 0,
         trials: 0,
         spent: 0,
+        places: 0,
         differing: 0,
     }
 }
@@ -93,10 +96,19 @@ fn left_right(number: usize, n: usize, said: u8, before: Walk, after: Walk) -> b
     test_walks::standing_number(at) == 3 + said % 2
 }
 
-// A step, compared with what the book says: the answer, the trials, and the walk that is left.
-fn counted(book: Book, allowance: usize, n: usize, before: Walk, step: Stepped) -> Counts {
+// A step, compared with what the book says: the answer, the trials, the place, and the walk that is left. `next` is the book after it.
+fn counted(
+    book: Book,
+    next: Book,
+    allowance: usize,
+    n: usize,
+    before: Walk,
+    step: Stepped,
+) -> Counts {
     let answer = step.answer;
     let after = step.walk;
+    let kept = after.kept;
+    let line = test_rows::row_of_number(n, next.kept);
     let said = test_walks::answer_number(answer);
     let trials = test_walks::book::trials(book, allowance) as u64;
     Counts {
@@ -104,8 +116,11 @@ fn counted(book: Book, allowance: usize, n: usize, before: Walk, step: Stepped) 
         rings: test_rows::one_if(said == 0),
         trials: step.trials as usize,
         spent: test_rows::one_if(said == 21),
+        places: step.place,
         differing: test_rows::one_if(said != test_walks::book::says(book, allowance))
             + test_rows::one_if(step.trials != trials)
+            + test_rows::one_if(step.place != test_walks::book::place(n, book, allowance))
+            + test_rows::one_if(!test_walks::same_row(&kept, &line))
             + test_rows::one_if(!left_right(book.number, n, said, before, after)),
     }
 }
@@ -126,7 +141,7 @@ fn compare(n: usize, half: usize, d: usize, kind: u8, limit: usize, pattern: usi
         let allowance = allowance_of(pattern, i);
         let next = test_walks::book::stepped(n, half, d, kind, book, allowance);
         let step = w.step(allowance as u64);
-        counts = sum(counts, counted(book, allowance, n, w, step));
+        counts = sum(counts, counted(book, next, allowance, n, w, step));
         if book.over {
             return counts;
         }
@@ -176,13 +191,14 @@ fn compare_drawers(n: usize, first: usize, skipped: usize, pattern: usize) -> Co
 
 fn print_counts(n: usize, counts: Counts) {
     test_rows::print_filled(
-        b"n #: walks # rings # trials # spent # differing #\n",
+        b"n #: walks # rings # trials # spent # places # differing #\n",
         &[
             n,
             counts.walks,
             counts.rings,
             counts.trials,
             counts.spent,
+            counts.places,
             counts.differing,
         ],
     );

@@ -5,13 +5,14 @@ use walk::OpenAnswer;
 use walk::Standing;
 use walk::Walk;
 
-fn print_line(number: usize, n: usize, row: [u8; refusal::MOST_STATIONS], trials: usize) {
+fn print_line(number: usize, w: Walk, place: usize, trials: usize) {
+    let row = w.row;
     test_rows::print_filled(b"# ", &[number]);
-    test_rows::print_row(n, &row);
-    test_rows::print_filled(b" #\n", &[trials]);
+    test_rows::print_row(w.n, &row);
+    test_rows::print_filled(b" place # trials #\n", &[place, trials]);
 }
 
-// All rings with their trials, then none with its own. A walk with plenty allowed is refused nothing before that.
+// All rings with their places and trials, then none with its own. A walk with plenty allowed is refused nothing before that.
 fn print_rings(opened: Walk) {
     let mut w = opened;
     let mut i: usize = 1;
@@ -22,13 +23,12 @@ fn print_rings(opened: Walk) {
         let said = test_walks::answer_number(answer);
         let trials = step.trials as usize;
         if said == 1 {
-            return test_rows::print_filled(b"end - #\n", &[trials]);
+            return test_rows::print_filled(b"end place # trials #\n", &[step.place, trials]);
         }
         if said != 0 {
             return;
         }
-        let row = w.row;
-        print_line(i, w.n, row, trials);
+        print_line(i, w, step.place, trials);
         i += 1;
     }
 }
@@ -42,6 +42,7 @@ fn print_refused(r: Refusal, w: Walk) {
         kind: 1,
         row,
         at: Standing::Ended,
+        kept: row,
     };
     test_rows::print_refusal(r);
     io::write_all(1, b" ended walk of (1,0):");

@@ -8,7 +8,7 @@ use native.Mathlib.Omega.{arith}
 use lib.ListN.{length}
 use Rattle.words.proofs.AtMost.{equal, lower, ≺-≼-trans, ≼-antisym, ≼-refl, _≼_}
 use Rattle.words.proofs.Below.{there, ≺-asym, ≺-irrefl, ≺-trans, _≺_}
-use Rattle.words.proofs.Lists.{keep-all, keep-same, keep→, →keep}
+use Rattle.words.proofs.Lists.{cons-head, cons-tail, keep-all, keep-same, keep→, →keep}
 use Rattle.words.proofs.OrderTests.{le→, lt→, not-le, not-lt, →le, →lt}
 use Rattle.words.specs.Falling.{Falling, Highest, falls-from, falls-none}
 use Rattle.words.specs.Order.{le, lt}
@@ -160,16 +160,10 @@ rest-below {x} {r} {rs} (falls-from {w = w} {l = l} h f) low (List·Memᴰ·head
     let t : w ∷ keep (λ v. lt v x) l ≡ r ∷ rs = rw a at e in
     rw b (keep-same (λ v. lt v r) (λ v. lt v x) l (λ v m. both v (rw (← q) at (lt→ v w (h v m)))) ∙ cons-tail t)
   where
-    cons-tail : {a b : List ℕ} {us vs : List (List ℕ)} → a ∷ us ≡ b ∷ vs → us ≡ vs
-    cons-tail e = cc
-
     both : (v : List ℕ) → v ≺ r → lt v r ≡ lt v x
     both v k = →lt v r k ∙ sym (→lt v x (≺-trans k low))
 rest-below {x} {r} {rs} (falls-from {w = w} {l = l} h f) low (List·Memᴰ·tail m) e = go (lt w x) refl (rest-below f low m)
   where
-    cons-head : {a b : List ℕ} {us vs : List (List ℕ)} → a ∷ us ≡ b ∷ vs → a ≡ b
-    cons-head e = cc
-
     b : lt w r ≡ false
     b = not-lt w r (lower (lt→ r w (h r m)))
 

@@ -31,9 +31,11 @@ pub mod ScanSteps
 -- rows over an alphabet
 pub mod Alphabet
 pub mod HighestSymbol
--- for loops: wrong symbols, writing the front of a buffer
+-- for loops: wrong symbols, the place of the first difference, writing the front of a buffer
 pub mod Zeros
 pub mod Wrong
+pub mod Difference
+pub mod FarthestDifference
 pub mod Front
 -- the pass over a row and one symbol more
 pub mod ScanMore

@@ -8,6 +8,13 @@ use lib.Dec.{eqb}
 use borrow.Author.Tests.{eq-eqb, eqb-true}
 use Rattle.words.specs.Tests.{any, isPrefix, keep}
 
+-- equal lists have equal heads and tails
+pub cons-head : {A : Type 0} {x y : A} {a b : List A} → x ∷ a ≡ y ∷ b → x ≡ y
+cons-head e = cc
+
+pub cons-tail : {A : Type 0} {x y : A} {a b : List A} → x ∷ a ≡ y ∷ b → a ≡ b
+cons-tail e = cc
+
 pub keep→ : (p : List ℕ → Bool) (w : List ℕ) (l : List (List ℕ)) → List·Memᴰ w (keep p l) → List·Memᴰ w l × (p w ≡ true)
 unfolding keep
 keep→ p w [] m = absurd (List·Memᴰ·not-nil m)

@@ -16,9 +16,13 @@ abbrev pub fromPlace : ℕ → ℕ → ℕ
 fromPlace i zero = zero
 fromPlace i (suc p) = suc (i + p)
 
-from-later : (i p : ℕ) → fromPlace i (later p) ≡ fromPlace (suc i) p
+pub from-later : (i p : ℕ) → fromPlace i (later p) ≡ fromPlace (suc i) p
 from-later i zero = refl
 from-later i (suc p) = ap suc (omega arith)
+
+pub none-later : (p : ℕ) → later p ≡ 0 → p ≡ 0
+none-later zero e = refl
+none-later (suc p) e = absurd (omega arith)
 
 pub from-start : (p : ℕ) → fromPlace 0 p ≡ p
 from-start zero = refl
@@ -44,10 +48,6 @@ unfolding firstWrong
 right-within k [] e = within-nil
 right-within k (x ∷ w) e = go (ltb x k) refl (right-within k w) e
   where
-    none-later : (p : ℕ) → later p ≡ 0 → p ≡ 0
-    none-later zero e = refl
-    none-later (suc p) e = absurd (omega arith)
-
     go : (b : Bool) → ltb x k ≡ b → (firstWrong k w ≡ 0 → Within k w) → cond b (later (firstWrong k w)) 1 ≡ 0 → Within k (x ∷ w)
     go true t ih e = within-cons w (ltb-true x k t) (ih (none-later (firstWrong k w) e))
     go false t ih e = absurd (omega arith)

@@ -4,7 +4,8 @@ use mathlib.Core.List.{List}
 use mathlib.Core.Logic.{_↔_, _⊎_}
 use mathlib.Core.Path.{_≡_}
 use Prim.Native.Nat.{ℕ, suc, _≤_, _<_}
-use lib.ListN.{length, getD}
+use lib.ListN.{length, getD, take}
+use Rattle.words.specs.Difference.{firstDifference}
 use Rattle.words.specs.Order.{le, lt}
 use Rattle.words.specs.Rotation.{IsRotation, isLyndon, isNecklace, leastIndex, leastRotation, period, rotation}
 use Rattle.words.specs.Symbols.{Within, firstWrong}
@@ -56,3 +57,34 @@ pub record FirstOther (k : ℕ) (w : List ℕ) (p : ℕ) : Type 0 where
 -- "A byte other than 0 or 1; place of the first", which is 0 where there is none.
 abbrev pub PlaceOfFirst : Type 0
 PlaceOfFirst = (k : ℕ) (w : List ℕ) → (Within k w × (firstWrong k w ≡ 0)) ⊎ FirstOther k w (firstWrong k w)
+
+-- ---- the first difference
+
+-- after i symbols of each, two rows differ, or one of them has ended
+abbrev pub Apart : List ℕ → List ℕ → ℕ → Type 0
+Apart a b i =
+    ((i < length a) × (i < length b) × (getD a i 0 ≡ getD b i 0 → ⊥))
+    ⊎ (((length a ≡ i) × (i < length b)) ⊎ ((length b ≡ i) × (i < length a)))
+
+-- p is the place where they first do: the symbols before it agree, so many of each
+pub record FirstApart (a b : List ℕ) (p : ℕ) : Type 0 where
+  pub before : ℕ
+  pub place : p ≡ suc before
+  pub agree : take before a ≡ take before b
+  pub apart : Apart a b before
+
+-- "that place (0 if equal)": 0 exactly for equal rows
+abbrev pub NoDifference : Type 0
+NoDifference = (a b : List ℕ) → (firstDifference a b ≡ 0) ↔ (a ≡ b)
+
+-- it is the same both ways
+abbrev pub DifferenceBothWays : Type 0
+DifferenceBothWays = (a b : List ℕ) → firstDifference a b ≡ firstDifference b a
+
+-- the symbols before it agree; at it they differ, or one row has ended, "the place just after the shorter"
+abbrev pub DifferencePlace : Type 0
+DifferencePlace = (a b : List ℕ) → (a ≡ b → ⊥) → FirstApart a b (firstDifference a b)
+
+-- and there is no other such place
+abbrev pub OnePlace : Type 0
+OnePlace = (a b : List ℕ) (p : ℕ) → FirstApart a b p → firstDifference a b ≡ p

@@ -4,6 +4,7 @@ pub mod Tests
 pub mod Falling
 pub mod Rotation
 pub mod Symbols
+pub mod Difference
 pub mod Buffers
 pub mod InnerScan
 pub mod Claims

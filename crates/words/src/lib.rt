@@ -2,6 +2,7 @@
 pub mod inner;
 
 ghost use mathlib.Core.Path.{_≡_};
+ghost use Rattle.words.specs.Difference.{firstDifference};
 ghost use Rattle.words.specs.Order.{cmp, orderOf};
 ghost use Rattle.words.specs.Symbols.{firstWrong};
 
@@ -12,29 +13,45 @@ pub enum Order {
     Higher,
 }
 
+// The order of two rows, and the place, from 1, where they first differ; 0 for equal rows.
+pub struct Compared {
+    pub order: Order,
+    pub place: usize,
+}
+
 // The dictionary order of two rows of any lengths. It leaves at the first difference.
-pub fn compare(a: &[u8], b: &[u8]) -> Order
-    ensures { λ r. ⌜ r ≡ orderOf (cmp (now (a .entry)) (now (b .entry))) ⌝ }
+pub fn compare(a: &[u8], b: &[u8]) -> Compared
+    ensures order { λ r. ⌜ r .order ≡ orderOf (cmp (now (a .entry)) (now (b .entry))) ⌝ }
+    ensures place { λ r. ⌜ r .place ≡ firstDifference (now (a .entry)) (now (b .entry)) ⌝ }
 {
+    let shorter = if a.len() < b.len() { a.len() } else { b.len() };
     let mut i: usize = 0;
-    while i < a.len() {
-        if b.len() <= i {
-            return Order::Higher;
-        }
+    while i < shorter {
         let x = a[i];
         let y = b[i];
-        if x < y {
-            return Order::Lower;
-        }
-        if y < x {
-            return Order::Higher;
+        if x != y {
+            let order = if x < y { Order::Lower } else { Order::Higher };
+            return Compared {
+                order,
+                place: i + 1,
+            };
         }
         i += 1;
     }
-    if i < b.len() {
+    if a.len() == b.len() {
+        return Compared {
+            order: Order::Equal,
+            place: 0,
+        };
+    }
+    let order = if a.len() < b.len() {
         Order::Lower
     } else {
-        Order::Equal
+        Order::Higher
+    };
+    Compared {
+        order,
+        place: i + 1,
     }
 }
 

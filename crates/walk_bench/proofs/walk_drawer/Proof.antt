@@ -7,10 +7,10 @@ use Rattle.walk_bench.proofs.walk_drawer.Statement.{statement}
 use Rattle.walk_bench.proofs.walk_drawer.Tie as tie
 
 abbrev Inv-loop : tie.InvT-loop
-Inv-loop n d kind most walk₀ left₀ rings₀ walk left rings = left ≤ 1000000000000
+Inv-loop n d kind most walk₀ left₀ rings₀ places₀ walk left rings places = left ≤ 1000000000000
 
 abbrev μ-loop : tie.MeasureT-loop
-μ-loop n d kind most walk₀ left₀ rings₀ walk left rings = most - rings
+μ-loop n d kind most walk₀ left₀ rings₀ places₀ walk left rings places = most - rings
 
 slice-aggregate-open : tie.Need-slice-aggregate-open Inv-loop μ-loop
 slice-aggregate-open c = sym (length-take-le _ _ (c .before .pre))
@@ -27,6 +27,7 @@ walk-drawer-spec =
     (λ c. search needs)
     (λ c κs. search needs)
     (λ c. search needs)
+    (λ c κs. search needs)
     (λ c. search needs)
     (λ c. search needs)
     (λ c. search needs)

@@ -3,7 +3,7 @@ use mathlib.Core.List.{List}
 use mathlib.Core.Logic.{⊎-elim}
 use Prim.Native.Nat.{ℕ, _-_, _≤_}
 use native.Mathlib.Omega.{arith}
-use lib.ListN.{drop, length}
+use lib.ListN.{length}
 use borrow.Author.Needs.{needs}
 use Rattle.density.proofs.rows.highest.Statement.{statement}
 use Rattle.words.proofs.HighestSymbol.{HighestSo, highest-end, highest-keep, highest-raise, highest-start}
@@ -11,7 +11,7 @@ use Rattle.density.proofs.rows.highest.Tie as tie
 
 record Inv (s : List ℕ) (most i : ℕ) : Type 0 where
   inside : i ≤ length s
-  so : HighestSo s most (drop i s)
+  so : HighestSo s most i
 
 abbrev Inv-loop : tie.InvT-loop
 Inv-loop s most₀ i₀ most i = Inv s most i

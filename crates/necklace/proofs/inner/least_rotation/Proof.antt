@@ -27,17 +27,17 @@ rotations-holds c = (refl, start _ (c .before .pre))
 rotations-again : tie.Need-rotations-again Inv-loop μ-loop Inv-rotations μ-rotations
 rotations-again c =
     let l = c .before .before .before .before .before .before .rotations in
-    (refl, by-tail-higher (l .inv .1) (c .before .before .before .before .before .rotations-test .taken) _ (c .before .before .compare .ensures) (c .enum-told .given .1))
+    (refl, by-tail-higher (l .inv .1) (c .before .before .before .before .before .rotations-test .taken) _ (c .before .before .compare .ensures .0) (c .enum-told .given .1))
 
 rotations-again-2 : tie.Need-rotations-again-2 Inv-loop μ-loop Inv-rotations μ-rotations
 rotations-again-2 c =
     let l = c .before .before .before .before .before .before .rotations in
-    (refl, by-tail-lower (l .inv .1) (c .before .before .before .before .before .rotations-test .taken) _ (c .before .before .compare .ensures) (c .enum-told2 .given .1))
+    (refl, by-tail-lower (l .inv .1) (c .before .before .before .before .before .rotations-test .taken) _ (c .before .before .compare .ensures .0) (c .enum-told2 .given .1))
 
 loop-holds : tie.Need-loop-holds Inv-loop μ-loop Inv-rotations μ-rotations
 loop-holds c =
     let l = c .before .before .before .before .before .before .rotations in
-    (refl, refl, refl, by-tail-equal (l .inv .1) (c .before .before .before .before .before .rotations-test .taken) _ (c .before .before .compare .ensures) (c .enum-told3 .given .1))
+    (refl, refl, refl, by-tail-equal (l .inv .1) (c .before .before .before .before .before .rotations-test .taken) _ (c .before .before .compare .ensures .0) (c .enum-told3 .given .1))
 
 -- the head is higher at place i, or lower, or equal so far
 rotations-again-3 : tie.Need-rotations-again-3 Inv-loop μ-loop Inv-rotations μ-rotations

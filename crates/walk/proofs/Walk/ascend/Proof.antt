@@ -160,13 +160,13 @@ module _ (c : tie.After-loop Inv-loop μ-loop) where
 
 found-requires : tie.Need-found-requires Inv-loop μ-loop
 found-requires c κs =
-    let v = c .before .loop .inv in
-    let e = at-end c in
-    let back : c .before .loop .p - 1 ≡ c .before .before .before .args .self .n = omega (arith, e) in
-    (ap Up e, v .comes .good, rw back at (v .knows))
+    let l = c .before .before in
+    let e = at-end (c .before) in
+    let back : l .loop .p - 1 ≡ l .before .before .args .self .n = omega (arith, e) in
+    (ap Up e, l .loop .inv .comes .good, rw back at (l .loop .inv .knows))
 
 returns-2 : tie.Need-returns-2 Inv-loop μ-loop
-returns-2 c = then-part (c .before .before .loop .inv .comes) _ (c .found .ensures)
+returns-2 c = then-part (c .before .before .before .loop .inv .comes) _ (c .found .ensures)
 
 pub ascend-spec : {M : Type 1} → statement M
 ascend-spec =

@@ -146,13 +146,13 @@ add-ascend : tie.Need-add-ascend Inv-loop μ-loop
 add-ascend c = let v = here c .loop .inv in omega (arith, inside v, few v)
 
 add-ascend-2 : tie.Need-add-ascend-2 Inv-loop μ-loop
-add-ascend-2 c = let v = here c .loop .inv in omega (arith, inside v, few v)
+add-ascend-2 c = let v = here (c .before) .loop .inv in omega (arith, inside v, few v)
 
 ascend-requires : tie.Need-ascend-requires Inv-loop μ-loop
-ascend-requires c κs = let back : here c .loop .p + 1 - 1 ≡ here c .loop .p = omega arith in (refl, came c .good, rw back (c .before .before .longer .ensures))
+ascend-requires c κs = let back : here (c .before) .loop .p + 1 - 1 ≡ here (c .before) .loop .p = omega arith in (refl, came (c .before) .good, rw back (c .before .before .before .longer .ensures))
 
 returns-2 : tie.Need-returns-2 Inv-loop μ-loop
-returns-2 c = then-part (came (c .before)) _ (c .ascend .ensures)
+returns-2 c = then-part (came (c .before .before)) _ (c .ascend .ensures)
 
 array-write-row-2 : tie.Need-array-write-row-2 Inv-loop μ-loop
 array-write-row-2 c = let v = c .before .before .before .before .before .before .before .loop .inv in omega (arith, inside v, few v, c .before .before .before .before .before .before .loop-test .taken)
@@ -189,10 +189,10 @@ module _ (c : tie.After-loop Inv-loop μ-loop) where
       (c .before .loop .inv .comes)
 
 none-requires : tie.Need-none-requires Inv-loop μ-loop
-none-requires c κs = (refl, at-end c .good)
+none-requires c κs = (refl, at-end (c .before) .good)
 
 returns-3 : tie.Need-returns-3 Inv-loop μ-loop
-returns-3 c = then-part (at-end (c .before)) _ (c .none .ensures)
+returns-3 c = then-part (at-end (c .before .before)) _ (c .none .ensures)
 
 pub descend-spec : {M : Type 1} → statement M
 descend-spec =

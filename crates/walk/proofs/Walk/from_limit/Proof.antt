@@ -48,10 +48,10 @@ found c =
     (ap (λ t. free (moved w (w .row) (Up t))) m ∙ from-limit w (s .pre .0) true (sym (c .before .is-necklace-of .ensures) ∙ c .if1 .taken))
 
 found-requires : tie.Need-found-requires
-found-requires c κs = (refl, found (c .before) .good, c .before .before .before .before .before .pre .3)
+found-requires c κs = (refl, found (c .before .before) .good, c .before .before .before .before .before .before .pre .3)
 
 returns : tie.Need-returns
-returns c = then-part (found (c .before .before)) _ (c .found .ensures)
+returns c = then-part (found (c .before .before .before)) _ (c .found .ensures)
 
 -- it is looked below
 below : (c : tie.Else1) → let s = c .before .before .before .before in Comes (s .args .self) (s .args .left) (moved (s .args .self) (s .args .self .row) (Down (s .args .self .n))) (s .args .left)
@@ -71,7 +71,7 @@ shorter-requires c κs = let s = c .before .before .before .before .before in (o
 
 descend-requires : tie.Need-descend-requires
 descend-requires c κs =
-    let e = c .before .before .before in
+    let e = c .before .before .before .before in
     let s = e .before .before .before .before in
     let w = s .args .self in
     let a = rowOf w in
@@ -79,11 +79,11 @@ descend-requires c κs =
       refl,
       below e .good,
       subst (λ a. KnowsPrefixes a (s .args .prefixes .now)) front (knows-fewer a (s .args .prefixes .now) (length a - 1) (omega arith) (s .pre .2)),
-      subst (λ a. Knows a (c .before .shorter .result)) front (c .before .shorter .ensures),
+      subst (λ a. Knows a (c .before .before .shorter .result)) front (c .before .before .shorter .ensures),
     )
 
 returns-2 : tie.Need-returns-2
-returns-2 c = then-part (below (c .before .before .before .before)) _ (c .descend .ensures)
+returns-2 c = then-part (below (c .before .before .before .before .before)) _ (c .descend .ensures)
 
 pub from-limit-spec : {M : Type 1} → statement M
 from-limit-spec =

@@ -1,33 +1,40 @@
 -- `walk::Walk::step` meets its contract.
+use mathlib.Core.Bool.{true}
 use mathlib.Core.List.{List}
-use mathlib.Core.Path.{ap, subst, sym, _∙_, _≡_}
-use Prim.Native.Nat.{ℕ, _≤_}
+use mathlib.Core.Path.{ap, refl, subst, sym, _∙_, _≡_}
+use Prim.Native.Nat.{ℕ, _-_, _≤_}
 use native.Mathlib.Omega.{arith}
 use lib.ListN.{length, take}
 use lib.Seq.{length-take-le}
 use borrow.Author.Needs.{needs}
 use borrow.Author.Tests.{not-false, not-true}
-use Rattle.walk.proofs.FitCases.{fit-no-record, fit-so-far, record-fitting}
-use Rattle.walk.proofs.StepLoop.{Going, first-informed, first-inside, first-length, first-read, going-first, struck-informed, struck-inside, struck-length, struck-long, struck-symbols, turn-again, turn-fits, turn-says, unfit-step}
+use Rattle.walk.proofs.FitCases.{fit-no-rows, fit-no-sizes, fit-so-far, record-fitting, sizes→}
+use Rattle.walk.proofs.StepLoop.{Going, first-informed, first-inside, first-length, first-read, going-first, returned, ring-padded, struck-informed, struck-inside, struck-length, struck-long, struck-symbols, turn-again, turn-fits, turn-says, unfit-step}
+use Rattle.density.proofs.PaddedRows.{padded-difference}
+use Rattle.density.specs.Rows.{isPadded}
 use Rattle.prefix.specs.InnerCarried.{Knows, KnowsPrefixes}
-use Rattle.walk.specs.InnerCourse.{Fitting, Informed, Resumes, before, size}
-use Rattle.walk.specs.Fit.{fit}
+use Rattle.walk.specs.InnerCourse.{Fitting, Informed, Resumes, before, saying, size}
+use Rattle.walk.specs.Fit.{fit, fitRows, fitSizes}
 use Rattle.walk.specs.Moves.{moved, rowOf, rules}
-use Rattle.walk.specs.Step.{stepDue, stepNumbers, stepOf}
+use Rattle.walk.specs.Step.{leaves, stepDue, stepNumbers, stepOf, stepped}
+use Rattle.walk.specs.declared.Answer.{Answer}
+use Rattle.walk.specs.declared.Answer.the-variants.{None, Refused, Ring}
 use Rattle.walk.specs.declared.Reached.{Reached}
 use Rattle.walk.specs.declared.Said.the-variants.{Nothing}
 use Rattle.walk.specs.declared.Stepped.{Stepped}
 use Rattle.walk.specs.declared.Walk.{Walk}
 use Rattle.refusal.specs.Verdicts.{mostStations}
-use Rattle.words.specs.Symbols.{Within}
+use Rattle.words.proofs.Booleans.{and→}
+use Rattle.words.specs.Difference.{firstDifference}
+use Rattle.words.specs.Symbols.{Within, zeros}
 use Rattle.walk.proofs.Walk.step.Statement.{statement}
 use Rattle.walk.proofs.Walk.step.Tie as tie
 
 abbrev Inv-loop : tie.InvT-loop
-Inv-loop w allowance n m row₀ at₀ left₀ prefixes₀ known₀ row at left prefixes known = Informed (moved w row at) prefixes known × Going w allowance (moved w row at) left
+Inv-loop w allowance n kept row₀ at₀ left₀ prefixes₀ m known₀ row at left prefixes known = Informed (moved w row at) prefixes known × Going w allowance (moved w row at) left
 
 abbrev μ-loop : tie.MeasureT-loop
-μ-loop w allowance n m row₀ at₀ left₀ prefixes₀ known₀ row at left prefixes known = size (moved w row at)
+μ-loop w allowance n kept row₀ at₀ left₀ prefixes₀ m known₀ row at left prefixes known = size (moved w row at)
 
 -- the right answer has the right numbers
 due : (w : Walk) (a : ℕ) (r : Stepped) → r ≡ stepOf rules w a → (r ≡ stepOf rules w a) × (stepNumbers r ≡ stepDue rules w a)
@@ -36,9 +43,9 @@ due w a r e = (e, ap stepNumbers e)
 returns : tie.Need-returns Inv-loop μ-loop
 returns c =
     let s = c .before .before .before in
-    due _ _ _ (c .unfit .ensures ∙ unfit-step (s .args .allowance) (s .args .self) (fit-no-record (s .args .self) (sym (c .before .before .fit-record .ensures) ∙ not-true _ (c .before .if1 .taken))))
+    due _ _ _ (c .unfit .ensures ∙ unfit-step (s .args .allowance) (s .args .self) (fit-no-sizes (s .args .self) (sym (c .before .before .fit-sizes .ensures) ∙ not-true _ (c .before .if1 .taken))))
 
--- the record's sizes and symbols are fit
+-- the record's sizes are fit
 module _ (c : tie.Else1 Inv-loop μ-loop) where
   abbrev start : tie.Start Inv-loop μ-loop
   start = c .before .before
@@ -46,41 +53,71 @@ module _ (c : tie.Else1 Inv-loop μ-loop) where
   long : length (start .args .self .row) ≡ mostStations
   long = search needs
 
-  fitting : Fitting (start .args .self)
-  fitting = record-fitting (start .args .self) (sym (c .before .fit-record .ensures) ∙ not-false _ (c .if1 .left)) long
+  keeps-long : length (start .args .self .kept) ≡ mostStations
+  keeps-long = search needs
 
-  inside : start .args .self .n ≤ length (start .args .self .row)
-  inside = omega (arith, long, fitting .most)
+  sizes : fitSizes rules (start .args .self) ≡ true
+  sizes = sym (c .before .fit-sizes .ensures) ∙ not-false _ (c .if1 .left)
 
-  whole : length (rowOf (start .args .self)) ≡ start .args .self .n
-  whole = length-take-le (start .args .self .n) (start .args .self .row) inside
+are-padded-requires : tie.Need-are-padded-requires Inv-loop μ-loop
+are-padded-requires c κs =
+    let e = c .before .before .before .before in
+    (omega (arith, long e, sizes→ (start e .args .self) (sizes e) .0 .most), long e ∙ sym (keeps-long e))
+
+-- both rows are tested
+module _ (c : tie.After-are-padded Inv-loop μ-loop) where
+  abbrev sized : tie.Else1 Inv-loop μ-loop
+  sized = c .before .before .before .before .before
+
+returns-2 : tie.Need-returns-2 Inv-loop μ-loop
+returns-2 c =
+    let t = c .before .before in
+    let s = start (sized t) in
+    due _ _ _ (c .unfit2 .ensures ∙ unfit-step (s .args .allowance) (s .args .self) (fit-no-rows (s .args .self) (sizes (sized t)) (sym (t .are-padded .ensures) ∙ not-true _ (c .before .if2 .taken))))
+
+-- and fit
+module _ (c : tie.Else2 Inv-loop μ-loop) where
+  abbrev first : Walk
+  first = start (sized (c .before)) .args .self
+
+  rows : fitRows first ≡ true
+  rows = sym (c .before .are-padded .ensures) ∙ not-false _ (c .if2 .left)
+
+  fitting : Fitting first
+  fitting = record-fitting first (sizes (sized (c .before))) rows (long (sized (c .before)))
+
+  inside : first .n ≤ length (first .row)
+  inside = omega (arith, long (sized (c .before)), fitting .most)
+
+  whole : length (rowOf first) ≡ first .n
+  whole = length-take-le (first .n) (first .row) inside
 
 array-share-prefix-row : tie.Need-array-share-prefix-row Inv-loop μ-loop
-array-share-prefix-row c = inside (c .before)
+array-share-prefix-row c = inside c
 
 slice-aggregate-prefixes-of : tie.Need-slice-aggregate-prefixes-of Inv-loop μ-loop
-slice-aggregate-prefixes-of c = sym (whole (c .before .before))
+slice-aggregate-prefixes-of c = sym (whole (c .before))
 
 prefixes-of-requires : tie.Need-prefixes-of-requires Inv-loop μ-loop
-prefixes-of-requires c κs = omega (arith, whole (c .before .before), fitting (c .before .before) .most)
+prefixes-of-requires c κs = omega (arith, whole (c .before), fitting (c .before) .most)
 
 -- the symbols before the place where the walk stands are read
 module _ (c : tie.After-before2 Inv-loop μ-loop) where
-  abbrev passed : tie.Else1 Inv-loop μ-loop
-  passed = c .before .before .before .before
+  abbrev passed : tie.Else2 Inv-loop μ-loop
+  passed = c .before .before .before
 
   abbrev front : List ℕ
-  front = take (c .before2 .result) (start passed .args .self .row)
+  front = take (c .before2 .result) (first passed .row)
 
-  front-inside : c .before2 .result ≤ length (start passed .args .self .row)
-  front-inside = subst (λ m. m ≤ length (start passed .args .self .row)) (sym (c .before2 .ensures)) (first-inside (fitting passed))
+  front-inside : c .before2 .result ≤ length (first passed .row)
+  front-inside = subst (λ m. m ≤ length (first passed .row)) (sym (c .before2 .ensures)) (first-inside (fitting passed))
 
   front-length : length front ≡ c .before2 .result
-  front-length = subst (λ m. length (take m (start passed .args .self .row)) ≡ m) (sym (c .before2 .ensures)) (first-length (fitting passed))
+  front-length = subst (λ m. length (take m (first passed .row)) ≡ m) (sym (c .before2 .ensures)) (first-length (fitting passed))
 
   front-read : (length front ≤ mostStations) × Within 2 front × KnowsPrefixes front (c .before .prefixes-of .result)
   front-read =
-      subst (λ m. let a = take m (start passed .args .self .row) in (length a ≤ mostStations) × Within 2 a × KnowsPrefixes a (c .before .prefixes-of .result)) (sym (c .before2 .ensures))
+      subst (λ m. let a = take m (first passed .row) in (length a ≤ mostStations) × Within 2 a × KnowsPrefixes a (c .before .prefixes-of .result)) (sym (c .before2 .ensures))
       (first-read (fitting passed) (c .before .prefixes-of .result) (c .before .prefixes-of .ensures))
 
 array-share-prefix-row-2 : tie.Need-array-share-prefix-row-2 Inv-loop μ-loop
@@ -94,59 +131,136 @@ read-requires c κs = front-read (c .before .before)
 
 -- what was read
 module _ (c : tie.After-read Inv-loop μ-loop) where
-  abbrev checked : tie.Else1 Inv-loop μ-loop
+  abbrev checked : tie.Else2 Inv-loop μ-loop
   checked = passed (c .before .before .before)
 
-  knows : let w = start checked .args .self in Knows (take (before (w .at) (w .n)) (w .row)) (c .read .result)
-  knows = subst (λ m. Knows (take m (start checked .args .self .row)) (c .read .result)) (c .before .before .before .before2 .ensures) (c .read .ensures)
+  knows : let w = first checked in Knows (take (before (w .at) (w .n)) (w .row)) (c .read .result)
+  knows = subst (λ m. Knows (take m (first checked .row)) (c .read .result)) (c .before .before .before .before2 .ensures) (c .read .ensures)
 
 fit-at-requires : tie.Need-fit-at-requires Inv-loop μ-loop
-fit-at-requires c κs = (fitting (checked c), knows c)
+fit-at-requires c κs = let r = c .before in (fitting (checked r), knows r, refl)
 
 -- the whole test
-tested : (c : tie.After-fit-at Inv-loop μ-loop) → c .fit-at .result ≡ fit rules (start (checked (c .before)) .args .self)
-tested c = let e = checked (c .before) in c .fit-at .ensures ∙ fit-so-far (start e .args .self) (sym (e .before .fit-record .ensures) ∙ not-false _ (e .if1 .left))
+tested : (c : tie.After-fit-at Inv-loop μ-loop) → c .fit-at .result ≡ fit rules (first (checked (c .before .before)))
+tested c = let e = checked (c .before .before) in c .fit-at .ensures ∙ fit-so-far (first e) (sizes (sized (e .before))) (rows e)
 
-returns-2 : tie.Need-returns-2 Inv-loop μ-loop
-returns-2 c =
+returns-3 : tie.Need-returns-3 Inv-loop μ-loop
+returns-3 c =
     let f = c .before .before in
-    let e = checked (f .before) in
-    due _ _ _ (c .unfit2 .ensures ∙ unfit-step (start e .args .allowance) (start e .args .self) (sym (tested f) ∙ not-true _ (c .before .if2 .taken)))
+    let s = start (sized (checked (f .before .before) .before)) in
+    due _ _ _ (c .unfit3 .ensures ∙ unfit-step (s .args .allowance) (s .args .self) (sym (tested f) ∙ not-true _ (c .before .if3 .taken)))
+
+-- the record is fit
+module _ (c : tie.Else3 Inv-loop μ-loop) where
+  abbrev tried : tie.Else2 Inv-loop μ-loop
+  tried = checked (c .before .before .before)
+
+  abbrev walk : Walk
+  walk = first tried
+
+  abbrev allowed : ℕ
+  allowed = start (sized (tried .before)) .args .allowance
+
+  fits : fit rules walk ≡ true
+  fits = sym (tested (c .before)) ∙ not-false _ (c .if3 .left)
+
+  whole-row : length (walk .row) ≡ mostStations
+  whole-row = long (sized (tried .before))
 
 loop-holds : tie.Need-loop-holds Inv-loop μ-loop
 loop-holds c =
-    let r = c .before .before in
-    let e = checked r in
-    let fits = sym (tested (c .before)) ∙ not-false _ (c .if2 .left) in (
-      first-informed (start e .args .allowance) (start e .args .self) fits (long e) _ _ (r .before .before .before .before .prefixes-of .ensures) (knows r),
-      going-first (start e .args .allowance) (start e .args .self) fits (long e),
+    let r = c .before .before .before in (
+      first-informed (allowed c) (walk c) (fits c) (whole-row c) _ _ (r .before .before .before .before .prefixes-of .ensures) (knows r),
+      going-first (allowed c) (walk c) (fits c) (whole-row c),
     )
 
 go-on-requires : tie.Need-go-on-requires Inv-loop μ-loop
-go-on-requires c κs = c .before .loop .inv .0
+go-on-requires c κs = c .before .before .loop .inv .0
 
--- the answer
-sub-t32 : tie.Need-sub-t32 Inv-loop μ-loop
-sub-t32 c = turn-fits (c .before .before .before .before .before .before .loop .inv .1) _ (c .before .before .before .before .go-on .ensures)
+-- ---- the answer
 
-returns-3 : tie.Need-returns-3 Inv-loop μ-loop
-returns-3 c = due _ _ _ (turn-says (c .before .before .before .before .before .before .loop .inv .1) _ (c .before .before .before .before .go-on .ensures) _ (c .before .said .given .1))
+module _ (c : tie.After-row5 Inv-loop μ-loop) where
+  abbrev turn : tie.At-loop Inv-loop μ-loop
+  turn = c .before .before .before .before
 
--- a ring of another kind
+  abbrev came : Reached
+  came = c .before .go-on .result
+
+  abbrev ended : Walk
+  ended = moved (walk (turn .before)) (came .row) (came .at)
+
+  fewer : came .left ≤ allowed (turn .before)
+  fewer = turn-fits (turn .loop .inv .1) came (c .before .go-on .ensures)
+
+  kept-long : length (ended .kept) ≡ mostStations
+  kept-long = keeps-long (sized (tried (turn .before) .before))
+
+  -- the step says x
+  says-so : (x : Answer) → came .said ≡ saying x → stepped ended x (allowed (turn .before) - came .left) ≡ stepOf rules (walk (turn .before)) (allowed (turn .before))
+  says-so x e = turn-says (turn .loop .inv .1) came (c .before .go-on .ensures) x e
+
+sub-trials : tie.Need-sub-trials Inv-loop μ-loop
+sub-trials c = fewer c
+
+-- a ring: measured from the row kept, which it replaces
 module _ (c : tie.After-enum-told Inv-loop μ-loop) where
+  abbrev told : tie.After-row5 Inv-loop μ-loop
+  told = c .before .before
+
+  says-ring : stepped (ended told) Ring (allowed (turn told .before) - came told .left) ≡ stepOf rules (walk (turn told .before)) (allowed (turn told .before))
+  says-ring = says-so told Ring (c .enum-told .given .1)
+
+  ring-row : (isPadded (ended told .n) (ended told .row) ≡ true) × (length (ended told .row) ≡ mostStations)
+  ring-row = let e = turn told .before in ring-padded (walk e) (allowed e) (record { test = fits e; long = whole-row e }) (ended told) _ says-ring
+
+  measured : firstDifference (ended told .kept) (ended told .row) ≡ leaves Ring (ended told)
+  measured =
+      let e = tried (turn told .before) in
+      padded-difference (ended told .n) (ended told .kept) (ended told .row) (kept-long told ∙ sym (ring-row .1))
+      (and→ (isPadded (first e .n) (first e .row)) (isPadded (first e .n) (first e .kept)) (rows e) .1) (ring-row .0)
+
+slice-aggregate-first-difference : tie.Need-slice-aggregate-first-difference Inv-loop μ-loop
+slice-aggregate-first-difference c = sym (kept-long (told (c .before)))
+
+slice-aggregate-first-difference-2 : tie.Need-slice-aggregate-first-difference-2 Inv-loop μ-loop
+slice-aggregate-first-difference-2 c = sym (ring-row (c .before .before) .1)
+
+first-difference-requires : tie.Need-first-difference-requires Inv-loop μ-loop
+first-difference-requires c κs = let e = c .before .before in (kept-long (told e), ring-row e .1)
+
+returns-4 : tie.Need-returns-4 Inv-loop μ-loop
+returns-4 c =
+    let e = c .before .before .before in
+    due _ _ _ (returned (ended (told e)) Ring _ _ _ refl (c .first-difference .ensures ∙ measured e) ∙ says-ring e)
+
+-- none
+returns-5 : tie.Need-returns-5 Inv-loop μ-loop
+returns-5 c =
+    let t = c .before .before in
+    due _ _ _ (returned (ended t) None _ _ _ (ap zeros (sym (kept-long t))) refl ∙ says-so t None (c .enum-told2 .given .1))
+
+-- a refusal
+returns-6 : tie.Need-returns-6 Inv-loop μ-loop
+returns-6 c =
+    let t = c .before .before .before in
+    due _ _ _ (returned (ended t) (Refused _) _ _ _ refl refl ∙ says-so t (Refused _) (c .before .said .given .1))
+
+-- ---- a ring of another kind
+
+module _ (c : tie.After-enum-told3 Inv-loop μ-loop) where
   abbrev here : tie.At-loop Inv-loop μ-loop
-  here = c .before .before .before .before .before
+  here = c .before .before .before .before .before .before
 
   abbrev reached : Reached
   reached = c .before .before .before .go-on .result
 
-  abbrev resumes : Resumes (moved (start (checked (here .before .before .before)) .args .self) (here .loop .row) (here .loop .at)) (here .loop .left) reached
+  abbrev resumes : Resumes (moved (walk (here .before)) (here .loop .row) (here .loop .at)) (here .loop .left) reached
   resumes = c .before .before .before .go-on .ensures
 
   nothing : reached .said ≡ Nothing
-  nothing = c .enum-told .given .1
+  nothing = c .enum-told3 .given .1
 
-  struck-row : length (take (start (checked (here .before .before .before)) .args .self .n) (reached .row)) ≡ start (checked (here .before .before .before)) .args .self .n
+  struck-row : length (take (walk (here .before) .n) (reached .row)) ≡ walk (here .before) .n
   struck-row = struck-length resumes nothing
 
 array-share-prefix-row-3 : tie.Need-array-share-prefix-row-3 Inv-loop μ-loop
@@ -186,6 +300,11 @@ step-spec =
     (λ c κs. search needs)
     (λ c κs. search needs)
     returns
+    (λ c. search needs)
+    (λ c. search needs)
+    are-padded-requires
+    (λ c κs. search needs)
+    returns-2
     array-share-prefix-row
     slice-aggregate-prefixes-of
     prefixes-of-requires
@@ -193,14 +312,22 @@ step-spec =
     array-share-prefix-row-2
     slice-aggregate-read
     read-requires
+    (λ c. search needs)
     fit-at-requires
     (λ c κs. search needs)
-    returns-2
+    returns-3
     loop-holds
     go-on-requires
+    sub-trials
     (λ c. search needs)
-    sub-t32
-    returns-3
+    slice-aggregate-first-difference
+    slice-aggregate-first-difference-2
+    first-difference-requires
+    returns-4
+    (λ c. search needs)
+    returns-5
+    (λ c. search needs)
+    returns-6
     (λ c. search needs)
     array-share-prefix-row-3
     slice-aggregate-prefixes-of-2
