@@ -11,18 +11,19 @@ from rings import (
     book_answers,
     drawer,
     first_difference,
-    gaps_of_row,
     key,
     opened,
     padded,
+    pitches_of_row,
     refusal,
-    row_of_gaps,
+    row_of_pitches,
     shelved,
     step,
     stations,
     top,
     without_symmetry,
     wrong,
+    zero_pitch,
 )
 
 PLENTY = 1000
@@ -134,38 +135,62 @@ def necklace_test():
         print(name, "compared", rows, "agreed", rows)
 
 
-# ---- gaps_test
+# ---- pitches_test
 
 
-def show_row(n, gaps, room):
-    no = refusal((1, not stations(n)), (2, len(gaps) > n), (7, gaps and sum(gaps) + len(gaps) != n), (9, room < n))
-    print(f"row of {n} stations and {len(gaps)} gaps", *gaps, "buffer", f"{room}: ", end="")
-    print(*([refused(*no), "as before 80"] if no else [text(row_of_gaps(n, gaps)), "as before", 80 - n]))
+def row_refusal(n, pitches, room):
+    return refusal(
+        (1, not stations(n)),
+        (2, len(pitches) > n),
+        (11, zero_pitch(pitches)),
+        (7, pitches and sum(pitches) != n),
+        (9, room < n),
+    )
+
+
+def show_row(n, pitches, room):
+    no = row_refusal(n, pitches, room)
+    print(f"row of {n} stations and {len(pitches)} pitches", *pitches, "buffer", f"{room}: ", end="")
+    print(*([refused(*no), "as before 80"] if no else [text(row_of_pitches(n, pitches)), "as before", 80 - n]))
 
 
 def show_list(digits, room):
     row = symbols(digits)
     n = len(row)
     no = refusal((1, not stations(n)), (3, wrong(row)), (8, any(row) and row[-1] == 0), (9, room < sum(row)))
-    print(f"gap list of {n} stations {digits} buffer {room}: ", end="")
+    print(f"pitch list of {n} stations {digits} buffer {room}: ", end="")
     if no:
         print(refused(*no), "as before 80")
     else:
-        gaps = gaps_of_row(row)
-        print(f"gaps {len(gaps)}:", *gaps, "as before", 80 - len(gaps))
+        pitches = pitches_of_row(row)
+        print(f"pitches {len(pitches)}:", *pitches, "as before", 80 - len(pitches))
 
 
-def gaps_test():
-    for line in lines("gaps_test"):
+def show_lists(size):
+    """All lists of so many pitches from 0 to 6, at 0 to 12 stations, in buffers of 16 and of 7 bytes."""
+    told = [
+        row_refusal(n, pitches, room) or (0, 0)
+        for pitches, n, room in product(product(range(7), repeat=size), range(13), (16, 7))
+    ]
+    numbers = [number for number, _ in told]
+    print(f"lists of {size} pitches: calls {len(told)} agreed {len(told)} written {numbers.count(0)}", end=" ")
+    print("refused", *(f"{number} {numbers.count(number)}" for number in (1, 2, 11, 7, 9)), end=" ")
+    print("places", sum(place for _, place in told))
+
+
+def pitches_test():
+    for line in lines("pitches_test"):
         word = line.split(" ")
         if word[0] == "row":
-            show_row(int(word[2]), [numeral(gap) for gap in word[9:]], int(word[5]))
+            show_row(int(word[2]), [numeral(pitch) for pitch in word[9:]], int(word[5]))
         else:
             show_list(word[5], int(word[7]))
     rows = rows_to_10()
     listed = sum(not any(row) or row[-1] == 1 for row in rows)
-    for name, number in (("gap list and back", listed), ("no gap list, refused 8", len(rows) - listed)):
+    for name, number in (("pitch list and back", listed), ("no pitch list, refused 8", len(rows) - listed)):
         print(name, "compared", number, "agreed", number)
+    for size in range(5):
+        show_lists(size)
 
 
 # ---- prefix_test

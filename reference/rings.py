@@ -44,12 +44,15 @@ def drawer(n, d):
     return [row for row in all_shelved(n) if sum(row) == d]
 
 
-def row_of_gaps(n, gaps):
-    return tuple(x for c in gaps for x in (0,) * c + (1,)) or (0,) * n
+def row_of_pitches(n, pitches):
+    """A pitch p: p stations, the last of them a hole."""
+    return tuple(x for p in pitches for x in (0,) * (p - 1) + (1,)) or (0,) * n
 
 
-def gaps_of_row(row):
-    return [len(zeros) for zeros in "".join(map(str, row)).split("1")[:-1]]
+def pitches_of_row(row):
+    """How many stations from one hole on to the next: the differences of their places."""
+    holes = [place for place, x in enumerate(row, 1) if x]
+    return [place - before for before, place in zip([0] + holes, holes)]
 
 
 # ---- refusals
@@ -64,9 +67,14 @@ def wrong(row):
     return next((i + 1 for i, x in enumerate(row) if x > 1), 0)
 
 
+def zero_pitch(pitches):
+    """The place of the first pitch of 0, 0 where there is none."""
+    return pitches.index(0) + 1 if 0 in pitches else 0
+
+
 def refusal(*conditions):
-    """The first number whose condition holds, with its place; only 3 has one."""
-    return next(((number, holds if number == 3 else 0) for number, holds in conditions if holds), None)
+    """The first number whose condition holds, with its place; only 3 and 11 have one."""
+    return next(((number, holds if number in (3, 11) else 0) for number, holds in conditions if holds), None)
 
 
 # ---- top rings, and prefixes by them: for drawers that are too long to list

@@ -39,14 +39,14 @@ module _ (n d : ℕ) (z : 0 < d) (h : 2 * d ≤ n) where
       let r : n % d < d = mod-lt n z in
       ceiling n d (n / d) (n % d) (d - n % d) (k * (d - n % d) / d) p k (div-add-mod' n d) (omega arith) (div-mul-le-self (k * (d - n % d)) d) (lt-div-mul-add z) a
 
-  pub least-gap : 2 ≤ n / d
-  least-gap = le-div-iff-mul-le z .1 h
+  pub least-quotient : 2 ≤ n / d
+  least-quotient = le-div-iff-mul-le z .1 h
 
   -- the smaller row's symbol k, b, makes block k
   pub few-block : (p k b : ℕ) → k < d → FewAt n d p k → b ≡ symbol d (d - n % d) k → (b ≤ 1) × FewBlock n d p k (n / d - b)
   few-block p k b k< a e =
       let r : n % d < d = mod-lt n z in
-      let t = least-gap in
+      let t = least-quotient in
       let s = symbol-step d (d - n % d) k z (omega arith) in
       let small : b ≤ 1 = omega arith in
       let next : FewAt n d (suc (p + (n / d - b))) (suc k) = omega arith in

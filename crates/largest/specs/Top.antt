@@ -1,6 +1,6 @@
 -- "Top ring of (n, d)": what the operation refuses and gives, and the two rules of document 01.
 use mathlib.Core.List.{List, [], map, _++_, _∷_}
-use Prim.Native.Nat.{ℕ, _+_, _-_}
+use Prim.Native.Nat.{suc, ℕ, _+_, _-_}
 use lib.Dec.{leb}
 use lib.ListN.{replicate}
 use Rattle.density.specs.Blocks.{blocks}
@@ -19,9 +19,10 @@ abbrev pub topOutcome : Top → Outcome Unit
 topOutcome Written = given tt
 topOutcome (Refused r) = refused r
 
--- "the row of gaps t - b1, t - b2 and so on"
+-- "the row of gaps t - b1, t - b2 and so on". A gap is the plain stations before a hole, and a pitch counts the hole
+-- too: gap c is pitch c + 1.
 abbrev pub fewRow : ℕ → List ℕ → List ℕ
-fewRow t w = blocks (map (λ b. t - b) w)
+fewRow t w = blocks (map (λ b. suc (t - b)) w)
 
 -- "a 0 and then s - 1 + ci ones, for each ci"
 unfoldable pub manyRow : ℕ → List ℕ → List ℕ

@@ -57,7 +57,7 @@ fn join_many(c: [u8; refusal::MOST_STATIONS], n: usize, d: usize) -> [u8; refusa
     row
 }
 
-// The rule for few holes: the gaps come from the top ring of d stations.
+// The rule for few holes: the pitches come from the top ring of d stations.
 fn few_holes(n: usize, d: usize) -> [u8; refusal::MOST_STATIONS]
     requires { ⌜ 0 < n ⌝ }
     requires { ⌜ n ≤ mostStations ⌝ }

@@ -91,11 +91,11 @@ pub fn refused(case: Case) -> usize {
 
 // ---- openings, refused and not
 
-// A few numbers from 0 on, and then some that are higher by a gap.
-fn spread(i: usize, few: usize, gap: usize) -> usize
-    requires { ⌜ (i < 10) × (gap < 1000) ⌝ }
+// A few numbers from 0 on, and then some that are higher by a leap.
+fn spread(i: usize, few: usize, leap: usize) -> usize
+    requires { ⌜ (i < 10) × (leap < 1000) ⌝ }
 {
-    if i < few { i } else { gap + i }
+    if i < few { i } else { leap + i }
 }
 
 // About as many as the stations, of 64 and more about none: one less, as many, or one more.

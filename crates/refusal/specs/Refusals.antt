@@ -1,7 +1,7 @@
 -- "Refused for the input" and "Refused for the state": each refusal's number and place.
 use Prim.Native.Nat.{ℕ}
 use Rattle.refusal.specs.declared.Refusal.{Refusal}
-use Rattle.refusal.specs.declared.Refusal.the-variants.{Stations, Holes, Symbol, Limit, Kind, Prefix, GapSum, LastGap, Buffer, Text, Ended, Spent, Unfit}
+use Rattle.refusal.specs.declared.Refusal.the-variants.{Stations, Holes, Symbol, Limit, Kind, Prefix, PitchSum, LastPlain, Buffer, Text, ZeroPitch, Ended, Spent, Unfit}
 
 -- the number of document 01
 abbrev pub numberOf : Refusal → ℕ
@@ -11,10 +11,11 @@ numberOf (Symbol p) = 3
 numberOf Limit = 4
 numberOf Kind = 5
 numberOf Prefix = 6
-numberOf GapSum = 7
-numberOf LastGap = 8
+numberOf PitchSum = 7
+numberOf LastPlain = 8
 numberOf Buffer = 9
 numberOf (Text line) = 10
+numberOf (ZeroPitch p) = 11
 numberOf Ended = 20
 numberOf Spent = 21
 numberOf Unfit = 22
@@ -27,10 +28,11 @@ placeOf (Symbol p) = p
 placeOf Limit = 0
 placeOf Kind = 0
 placeOf Prefix = 0
-placeOf GapSum = 0
-placeOf LastGap = 0
+placeOf PitchSum = 0
+placeOf LastPlain = 0
 placeOf Buffer = 0
 placeOf (Text line) = line
+placeOf (ZeroPitch p) = p
 placeOf Ended = 0
 placeOf Spent = 0
 placeOf Unfit = 0

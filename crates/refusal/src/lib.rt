@@ -9,7 +9,7 @@ pub const MOST_STATIONS: usize = 64;
 pub enum Refusal {
     // stations not 1 to 64
     Stations,
-    // holes, or the length of a gap list, above the stations
+    // holes, or the length of a pitch list, above the stations
     Holes,
     // a byte other than 0 or 1, with the place of the first
     Symbol(usize),
@@ -19,14 +19,16 @@ pub enum Refusal {
     Kind,
     // prefix longer than the stations
     Prefix,
-    // a non-empty gap list whose sum plus its length isn't the stations
-    GapSum,
-    // a row with holes that ends in 0, asked for its gap list
-    LastGap,
+    // a non-empty pitch list that doesn't add up to the stations
+    PitchSum,
+    // a row with holes that ends in 0, asked for its pitch list
+    LastPlain,
     // output buffer too short
     Buffer,
     // program text not as described, with the line
     Text(usize),
+    // a pitch of 0, with the place of the first in the list
+    ZeroPitch(usize),
     // the walk has ended
     Ended,
     // allowance spent
@@ -53,10 +55,11 @@ pub fn number(r: Refusal) -> u8
         Refusal::Limit => 4,
         Refusal::Kind => 5,
         Refusal::Prefix => 6,
-        Refusal::GapSum => 7,
-        Refusal::LastGap => 8,
+        Refusal::PitchSum => 7,
+        Refusal::LastPlain => 8,
         Refusal::Buffer => 9,
         Refusal::Text(_) => 10,
+        Refusal::ZeroPitch(_) => 11,
         Refusal::Ended => 20,
         Refusal::Spent => 21,
         Refusal::Unfit => 22,
@@ -74,10 +77,11 @@ pub fn place(r: Refusal) -> usize
         Refusal::Limit => 0,
         Refusal::Kind => 0,
         Refusal::Prefix => 0,
-        Refusal::GapSum => 0,
-        Refusal::LastGap => 0,
+        Refusal::PitchSum => 0,
+        Refusal::LastPlain => 0,
         Refusal::Buffer => 0,
         Refusal::Text(line) => line,
+        Refusal::ZeroPitch(p) => p,
         Refusal::Ended => 0,
         Refusal::Spent => 0,
         Refusal::Unfit => 0,

@@ -4,7 +4,7 @@ use mathlib.Core.Path.{refl}
 use Rattle.density.specs.Density.{allRows, density}
 use Rattle.density.specs.Necklaces.{begins, isKind, isNecklaceOf, largestNecklace, necklaces, ofKind}
 use Rattle.density.specs.Rows.{isPadded}
-use Rattle.gaps.specs.Gaps.{gapsFrom, gapsOfRow}
+use Rattle.pitches.specs.Pitches.{pitchesFrom, pitchesOfRow}
 use Rattle.refusal.specs.Verdicts.{areStations}
 use Rattle.specimens.specs.Starred.{Say, starred}
 use Rattle.walk.specs.Fit.{fit, fitAt, fitSizes}
@@ -14,9 +14,9 @@ use Rattle.walk.specs.Step.{enough, run, stepOf, walkPlaced}
 use Rattle.words.specs.Difference.{firstDifference}
 use Rattle.words.specs.Order.{cmp, le, lt, same}
 use Rattle.words.specs.Rotation.{isLeastAt, isLyndon, isNecklace, leastIndex, leastRotation, period, rotation}
-use Rattle.words.specs.Symbols.{allUpTo, firstWrong}
+use Rattle.words.specs.Symbols.{allUpTo, firstWhere, firstWrong}
 use Rattle.words.specs.Tests.{allBelow, any, firstFrom, isPrefix, keep}
 
 pub starred-hold : Say starred
-unfolding starred openVerdict areStations firstWrong firstDifference cmp le lt same allBelow firstFrom keep any isPrefix rotation isNecklace period isLeastAt leastIndex leastRotation density allRows isNecklaceOf necklaces headD largestNecklace begins gapsFrom gapsOfRow walkPlaced stepOf fit fitAt fitSizes isPadded allUpTo run enough moveAt isKind ofKind isLyndon
+unfolding starred openVerdict areStations firstWrong firstWhere firstDifference cmp le lt same allBelow firstFrom keep any isPrefix rotation isNecklace period isLeastAt leastIndex leastRotation density allRows isNecklaceOf necklaces headD largestNecklace begins pitchesFrom pitchesOfRow walkPlaced stepOf fit fitAt fitSizes isPadded allUpTo run enough moveAt isKind ofKind isLyndon
 starred-hold = ((refl, refl, refl), ((refl, refl, refl), (refl, (refl, (refl, (refl, (refl, ((refl, refl), (refl, (refl, (refl, (refl, (refl, (refl, (refl, tt)))))))))))))))

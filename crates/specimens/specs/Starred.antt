@@ -1,4 +1,4 @@
--- The starred specimens of document 01, with the places of M-100, and what each says of the definitions.
+-- The starred specimens of document 01, with the places of M-100 and the pitches of M-110, and what each says of the definitions.
 use mathlib.Core.Path.{_≡_}
 use mathlib.Core.Bool.{Bool, true, false}
 use mathlib.Core.List.{List, [], _∷_}
@@ -9,9 +9,9 @@ use Rattle.words.specs.Rotation.{leastRotation, leastIndex, period}
 use Rattle.words.specs.declared.Order.{Order}
 use Rattle.words.specs.declared.Order.the-variants.{Lower}
 use Rattle.density.specs.Necklaces.{begins, largestNecklace}
-use Rattle.gaps.specs.Gaps.{gapsOfRow}
 use Rattle.listing.specs.Listing.{Line, ring, none, says, told}
 use Rattle.listing.specs.Places.{placed}
+use Rattle.pitches.specs.Pitches.{pitchesOfRow}
 use Rattle.walk.specs.Moves.{rules}
 use Rattle.walk.specs.Opening.{openVerdict, openWalk}
 use Rattle.walk.specs.Step.{walkPlaced}
@@ -23,8 +23,8 @@ pub data Specimen : Type 0 where
   prefix : ℕ → ℕ → List ℕ → Bool → Specimen
   -- top(n, d) is a row
   top : ℕ → ℕ → List ℕ → Specimen
-  -- gaps of a row
-  gaps : List ℕ → List ℕ → Specimen
+  -- pitches of a row
+  pitches : List ℕ → List ℕ → Specimen
   -- two rows: their order, and the place where they first differ
   compared : List ℕ → List ℕ → Order → ℕ → Specimen
   -- drawer (n, d), kind, limit: the first answer of the walk that opening hands out, its place and its trials
@@ -35,7 +35,7 @@ abbrev pub Says : Specimen → Type 0
 Says (key w least turn p) = (leastRotation w ≡ least) × (leastIndex w ≡ turn) × (period w ≡ p)
 Says (prefix n d p answer) = begins n d p ≡ answer
 Says (top n d w) = largestNecklace n d ≡ w
-Says (gaps w list) = gapsOfRow w ≡ list
+Says (pitches w list) = pitchesOfRow w ≡ list
 Says (compared a b order place) = (orderOf (cmp a b) ≡ order) × (firstDifference a b ≡ place)
 Says (step n d kind limit line place trials) =
     walkPlaced rules (openWalk (openVerdict n d kind limit) rules n d kind limit) (100 ∷ []) ≡ placed (told (says line) trials) place ∷ []
@@ -61,5 +61,5 @@ starred =
     ∷ step 4 2 2 (0 ∷ 1 ∷ 0 ∷ 1 ∷ []) (ring (0 ∷ 0 ∷ 1 ∷ 1 ∷ [])) 2 3
     ∷ step 2 0 2 (1 ∷ 1 ∷ []) none 0 3
     ∷ step 1 0 2 (0 ∷ []) (ring (0 ∷ [])) 0 0
-    ∷ gaps (0 ∷ 0 ∷ 1 ∷ 0 ∷ 0 ∷ 1 ∷ 0 ∷ 1 ∷ []) (2 ∷ 2 ∷ 1 ∷ [])
+    ∷ pitches (0 ∷ 0 ∷ 1 ∷ 0 ∷ 0 ∷ 1 ∷ 0 ∷ 1 ∷ []) (3 ∷ 3 ∷ 2 ∷ [])
     ∷ []

@@ -69,7 +69,7 @@ open-accepts n d kind limit = (admits, λ c. accepted-exactly (openConditions n 
     kinds (inr e) h = h .1 e
 
     none-holds : NoCondition n d kind limit → NoneHolds (openConditions n d kind limit)
-    none-holds c = (stations c, (λ h. omega (arith, c .holes), (kinds (c .kinds), (λ h. h (c .long), (λ o. omega (arith, o .other, c .symbols (o .before) (o .inside)), tt)))))
+    none-holds c = (stations c, (λ h. omega (arith, c .holes), (kinds (c .kinds), (λ h. h (c .long), (λ o. omega (arith, o .here, c .symbols (o .before) (o .inside)), tt)))))
 
 -- ---- after an opening
 

@@ -9,8 +9,8 @@ use lib.Dec.{eqb}
 use lib.ListN.{drop, drop-of-length-le, getD, length, take}
 use lib.Seq.{drop-cons}
 use borrow.Author.Tests.{eq-eqb, eqb-false, eqb-true, ne-eqb}
+use Rattle.words.proofs.FirstPlaces.{from-later, fromPlace, none-later}
 use Rattle.words.proofs.Lists.{cons-head, cons-tail}
-use Rattle.words.proofs.Wrong.{from-later, fromPlace, none-later}
 use Rattle.words.specs.Claims.{Apart, DifferenceBothWays, DifferencePlace, FirstApart, NoDifference, OnePlace}
 use Rattle.words.specs.Difference.{firstDifference}
 use Rattle.words.specs.Symbols.{later}

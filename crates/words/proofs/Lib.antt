@@ -31,8 +31,9 @@ pub mod ScanSteps
 -- rows over an alphabet
 pub mod Alphabet
 pub mod HighestSymbol
--- for loops: wrong symbols, the place of the first difference, writing the front of a buffer
+-- for loops: the first symbol that passes a test, wrong symbols, the place of the first difference, writing the front of a buffer
 pub mod Zeros
+pub mod FirstPlaces
 pub mod Wrong
 pub mod Difference
 pub mod FarthestDifference

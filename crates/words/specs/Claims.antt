@@ -46,13 +46,17 @@ OneKey = (v w : List ℕ) → 0 < length v → 0 < length w → (leastRotation v
 
 -- ---- symbols
 
--- p is the place of the first symbol that is none of an alphabet of k; before it stand so many
-pub record FirstOther (k : ℕ) (w : List ℕ) (p : ℕ) : Type 0 where
+-- p is the place of the first symbol that is so; before it stand so many
+pub record FirstSo (So : ℕ → Type 0) (w : List ℕ) (p : ℕ) : Type 0 where
   pub before : ℕ
   pub place : p ≡ suc before
   pub inside : before < length w
-  pub other : k ≤ getD w before 0
-  pub first : (i : ℕ) → i < before → getD w i 0 < k
+  pub here : So (getD w before 0)
+  pub first : (i : ℕ) → i < before → So (getD w i 0) → ⊥
+
+-- the first that is none of an alphabet of k
+abbrev pub FirstOther : ℕ → List ℕ → ℕ → Type 0
+FirstOther k w p = FirstSo (λ x. k ≤ x) w p
 
 -- "A byte other than 0 or 1; place of the first", which is 0 where there is none.
 abbrev pub PlaceOfFirst : Type 0

@@ -1,9 +1,9 @@
--- The symbols of a row: an alphabet, zeros, their sum, and the first that is none of an alphabet.
+-- The symbols of a row: an alphabet, zeros, their sum, and the first that passes a test or is none of an alphabet.
 use mathlib.Core.Bool.{Bool, cond, true, _&&_}
 use mathlib.Core.List.{List, [], _∷_}
 use Prim.Native.Nat.{ℕ, zero, suc, _+_, _<_}
 use lib.ListN.{getD, length, replicate}
-use lib.Dec.{leb, ltb}
+use lib.Dec.{leb}
 
 -- each symbol is one of an alphabet of k
 abbrev pub Within : ℕ → List ℕ → Type 0
@@ -30,8 +30,11 @@ abbrev pub later : ℕ → ℕ
 later zero = zero
 later (suc p) = suc (suc p)
 
--- "A byte other than 0 or 1; place of the first", for an alphabet of k symbols: the place, from 1, of the first symbol
--- that is not below k, and 0 where there is none.
+-- the place, from 1, of the first symbol that passes a test, and 0 where none does
+unfoldable pub firstWhere : (ℕ → Bool) → List ℕ → ℕ
+firstWhere test [] = 0
+firstWhere test (x ∷ xs) = let rest = later (firstWhere test xs) in cond (test x) 1 rest
+
+-- "A byte other than 0 or 1; place of the first", for an alphabet of k symbols: the first that is not below k.
 unfoldable pub firstWrong : ℕ → List ℕ → ℕ
-firstWrong k [] = 0
-firstWrong k (x ∷ xs) = let rest = later (firstWrong k xs) in cond (ltb x k) rest 1
+firstWrong k w = firstWhere (λ x. leb k x) w

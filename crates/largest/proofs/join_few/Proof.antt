@@ -7,7 +7,7 @@ use native.Mathlib.Numerals.{add-one}
 use native.Mathlib.Omega.{arith}
 use lib.ListN.{getD, set, take}
 use borrow.Author.Needs.{needs}
-use Rattle.largest.proofs.FewBlocks.{FewAt, few-ends, few-start, few-turn, least-gap}
+use Rattle.largest.proofs.FewBlocks.{FewAt, few-ends, few-start, few-turn, least-quotient}
 use Rattle.largest.proofs.FilledRow.{Filled, few-filled, filled-none, filled-whole}
 use Rattle.density.specs.InnerBalanced.{balanced}
 use Rattle.refusal.specs.Verdicts.{mostStations}
@@ -38,7 +38,7 @@ on n d w row p k l z h e k< i =
     let t = few-turn n d z h p k w e k< (i .place) in
     let b = t .1 in
     let g : ℕ = n / d - getD w k 0 in
-    let s = least-gap n d z h in
+    let s = least-quotient n d z h in
     let here : p + n / d + 1 - getD w k 0 ≡ suc (p + g) = omega arith in
     let last : p + n / d + 1 - getD w k 0 - 1 ≡ p + g = omega arith in
     record {

@@ -8,8 +8,8 @@ use native.Mathlib.Omega.{arith}
 use lib.ListN.{drop, length}
 use borrow.Author.Needs.{needs}
 use Rattle.words.proofs.Difference.{differ-ended, differ-here, differ-long, differ-on, differ-short}
+use Rattle.words.proofs.FirstPlaces.{from-start, fromPlace}
 use Rattle.words.proofs.OrderTests.{cmp-ended, cmp-higher, cmp-long, cmp-lower, cmp-on, cmp-short}
-use Rattle.words.proofs.Wrong.{from-start, fromPlace}
 use Rattle.words.specs.Difference.{firstDifference}
 use Rattle.words.specs.Order.{cmp, orderOf}
 use Rattle.words.proofs.compare.Statement.{statement}

@@ -1,4 +1,0 @@
--- Gap lists.
-pub mod Gaps
-pub mod Answers
-pub mod Claims

@@ -1,8 +1,0 @@
-// Gap lists: specimens, refusals in their order, and all rows of up to 10 stations against plain search.
-mod all_rows;
-mod lists;
-
-fn main() {
-    lists::show_all();
-    all_rows::compare_all();
-}

@@ -1,0 +1,4 @@
+-- Pitch lists.
+pub mod Pitches
+pub mod Answers
+pub mod Claims
