@@ -11,12 +11,13 @@ use lib.ListN.{getD, length}
 use borrow.Author.Tests.{eqb-false, eqb-true, leb-true}
 use Rattle.density.proofs.Binary.{Binary, binary-at, binary-no-wrong, binary-sum, density-sum, no-wrong, within-binary}
 use Rattle.density.specs.Density.{density}
+use Rattle.pitches.proofs.HolesAt.{hole-at, holes-upto}
 use Rattle.pitches.proofs.Listing.{ends-at}
 use Rattle.pitches.proofs.Positive.{Positive, no-zero, positive-no-zero, row-positive, zero-decided}
 use Rattle.pitches.proofs.Refused.{list-accepted, pitches-holes, row-accepted}
-use Rattle.pitches.proofs.RoundTrip.{pitches-back, row-back, row-binary, row-density, row-ends, row-length}
+use Rattle.pitches.proofs.RoundTrip.{pitches-back, row-back, row-binary, row-density, row-ends, row-length, row-of-some}
 use Rattle.pitches.specs.Answers.{listVerdict, rowVerdict}
-use Rattle.pitches.specs.Claims.{EndsPlain, FirstZeroAt, ItsList, ListRefusals, ListRowList, PlaceOfZero, RowListRow, RowOfList, RowRefusals, WrongSum}
+use Rattle.pitches.specs.Claims.{EndsPlain, FirstZeroAt, HolePlaces, ItsList, ListRefusals, ListRowList, PlaceOfZero, RowListRow, RowOfList, RowRefusals, WrongSum}
 use Rattle.pitches.specs.Pitches.{addsUp, endsInOne, firstZero, hasPitchList, pitchesOfRow, rowOfPitches}
 use Rattle.refusal.proofs.Conditions.{Tells, at-most-tells, chain-first, need→, passed, stations-tell, test}
 use Rattle.refusal.specs.Verdicts.{accepted, areStations}
@@ -94,6 +95,11 @@ list-taken n pitches room e =
 
 pub row-of-list : RowOfList
 row-of-list n pitches room e = let t = list-taken n pitches room e in (row-length n pitches (t .full), row-density n (t .positive))
+
+pub hole-places : HolePlaces
+hole-places n pitches room e k h =
+    let v = list-taken n pitches room e .positive in
+    rw (row-of-some n pitches (omega arith)) (hole-at v k h, holes-upto v k h)
 
 pub list-row-list : ListRowList
 list-row-list n pitches room e =

@@ -4,7 +4,7 @@ use mathlib.Core.Path.{refl, _≡_}
 use Prim.Native.Nat.{suc, zero, ℕ, _<_}
 use native.Mathlib.Omega.{arith}
 use lib.Dec.{eqb}
-use lib.ListN.{getD, length}
+use lib.ListN.{getD, length, take}
 use borrow.Author.Tests.{eqb-false, eqb-true, ne-eqb}
 use Rattle.words.proofs.FirstPlaces.{Decides, none-later}
 use Rattle.words.specs.Symbols.{firstWhere}
@@ -32,6 +32,11 @@ pub positive-at : {pitches : List ℕ} → Positive pitches → (k : ℕ) → k 
 positive-at none k h = absurd (omega arith)
 positive-at (more v) zero h = omega arith
 positive-at (more v) (suc k) h = positive-at v k (omega arith)
+
+pub positive-take : (k : ℕ) {pitches : List ℕ} → Positive pitches → Positive (take k pitches)
+positive-take zero v = none
+positive-take (suc k) none = none
+positive-take (suc k) (more v) = more (positive-take k v)
 
 -- the pitches of a row
 pub row-positive : (z : ℕ) (w : List ℕ) → Positive (pitchesFrom z w)

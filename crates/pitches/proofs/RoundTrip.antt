@@ -60,7 +60,7 @@ row-of-none : (n : ℕ) (pitches : List ℕ) → pitches ≡ [] → rowOfPitches
 unfolding rowOfPitches
 row-of-none n pitches e = rw e
 
-row-of-some : (n : ℕ) (pitches : List ℕ) → 0 < length pitches → rowOfPitches n pitches ≡ blocks pitches
+pub row-of-some : (n : ℕ) (pitches : List ℕ) → 0 < length pitches → rowOfPitches n pitches ≡ blocks pitches
 unfolding rowOfPitches
 row-of-some n [] h = absurd (omega arith)
 row-of-some n (p ∷ pitches) h = refl

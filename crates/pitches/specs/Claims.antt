@@ -2,8 +2,8 @@
 use mathlib.Core.List.{List}
 use mathlib.Core.Logic.{_⊎_}
 use mathlib.Core.Path.{_≡_}
-use Prim.Native.Nat.{ℕ, _-_, _<_}
-use lib.ListN.{getD, length}
+use Prim.Native.Nat.{suc, ℕ, _-_, _<_}
+use lib.ListN.{getD, length, take}
 use Rattle.density.specs.Density.{density}
 use Rattle.pitches.specs.Answers.{listVerdict, rowVerdict}
 use Rattle.pitches.specs.Pitches.{firstZero, pitchesOfRow, rowOfPitches}
@@ -61,6 +61,13 @@ abbrev pub RowOfList : Type 0
 RowOfList =
     (n : ℕ) (pitches : List ℕ) (room : ℕ) → rowVerdict n pitches room ≡ accepted
     → (length (rowOfPitches n pitches) ≡ n) × (density (rowOfPitches n pitches) ≡ length pitches)
+
+-- "how many stations from one hole on to the next, the hole itself counted": hole k + 1 lies where the first k + 1
+-- pitches end
+abbrev pub HolePlaces : Type 0
+HolePlaces =
+    (n : ℕ) (pitches : List ℕ) (room : ℕ) → rowVerdict n pitches room ≡ accepted → (k : ℕ) → k < length pitches
+    → let place = sum (take (suc k) pitches) in (getD (rowOfPitches n pitches) (place - 1) 0 ≡ 1) × (density (take place (rowOfPitches n pitches)) ≡ suc k)
 
 -- its row is taken in turn, and gives the list back
 abbrev pub ListRowList : Type 0
