@@ -12,6 +12,7 @@ from rings import (
     drawer,
     first_difference,
     key,
+    of_kind,
     opened,
     padded,
     pitches_of_row,
@@ -21,6 +22,7 @@ from rings import (
     step,
     stations,
     top,
+    ways,
     without_symmetry,
     wrong,
     zero_pitch,
@@ -191,6 +193,50 @@ def pitches_test():
         print(name, "compared", number, "agreed", number)
     for size in range(5):
         show_lists(size)
+
+
+# ---- ways, lengths_test
+
+
+def ways_program():
+    print("top bottom ways")
+    for n in range(65):
+        for d in range(n + 1):
+            print(n, d, ways(n, d))
+
+
+def ways_refusal(n, d):
+    return refusal((1, n > 64), (2, d > n))
+
+
+def ceiling_refusal(n, d, kind):
+    return refusal((1, not stations(n)), (2, d > n), (5, kind not in (1, 2)))
+
+
+def show_calls(name, told, numbers):
+    told = [no[0] if no else 0 for no in told]
+    print(f"{name}: calls {len(told)} agreed {len(told)} given {told.count(0)} refused", end=" ")
+    print(*(f"{number} {told.count(number)}" for number in numbers))
+
+
+def lengths_test():
+    for line in lines("lengths_test"):
+        name, n, d, *kind = line.split(" ")
+        n, d = numeral(n), numeral(d)
+        no = ceiling_refusal(n, d, int(kind[0])) if kind else ways_refusal(n, d)
+        print(f"{line}:", refused(*no) if no else ways(n, d))
+    rows = [row for n in range(11) for row in product((0, 1), repeat=n)]
+    assert all(ways(n, d) == sum(len(row) == n and sum(row) == d for row in rows) for n in range(11) for d in range(n + 1))
+    print("rows of up to 10 stations: rows", len(rows), "pairs 176 agreed 176")
+    numbers = [*range(68), 127, 256, 2**32, 2**63, MOST]
+    pairs = list(product(numbers, repeat=2))
+    show_calls("look-ups", (ways_refusal(*pair) for pair in pairs), (1, 2))
+    kinds = (0, 1, 2, 3, 4, 255)
+    show_calls("ceilings", (ceiling_refusal(*pair, kind) for pair in pairs for kind in kinds), (1, 2, 5))
+    for n, kind in product(range(1, 13), (1, 2)):
+        rings = [sum(of_kind(kind, row) for row in drawer(n, d)) for d in range(n + 1)]
+        assert all(ring <= ways(n, d) for d, ring in enumerate(rings))
+        print(f"n {n} kind {kind}: drawers {n + 1} within {n + 1} rings {sum(rings)} ceilings {sum(ways(n, d) for d in range(n + 1))}")
 
 
 # ---- prefix_test

@@ -55,6 +55,12 @@ def pitches_of_row(row):
     return [place - before for before, place in zip([0] + holes, holes)]
 
 
+@lru_cache(None)
+def ways(n, d):
+    """To choose d of n: the ends are 1, inner entries the sum of the two above."""
+    return 1 if d in (0, n) else ways(n - 1, d - 1) + ways(n - 1, d)
+
+
 # ---- refusals
 
 

@@ -1,18 +1,52 @@
--- What was tested of a drawer and a limit that are accepted.
-use mathlib.Core.Bool.{true}
+-- The verdicts on a drawer, and on a drawer and a limit.
+use mathlib.Core.Bool.{Bool, false, false≢true, true, true≢false}
 use mathlib.Core.List.{List}
-use mathlib.Core.Path.{_≡_}
-use Prim.Native.Nat.{ℕ, _≤_}
+use mathlib.Core.Path.{refl, _≡_}
+use Prim.Native.Nat.{suc, zero, ℕ, _≤_}
+use native.Mathlib.Omega.{arith}
 use lib.Dec.{eqb, leb}
 use lib.ListN.{length}
 use borrow.Author.Tests.{eqb-true, leb-true}
 use Rattle.density.proofs.Binary.{Binary, no-wrong}
-use Rattle.density.specs.Drawers.{openVerdict}
+use Rattle.density.specs.Drawers.{NoKind, drawerConditions, drawerNeeds, drawerVerdict, openVerdict}
 use Rattle.density.specs.Necklaces.{isKind}
-use Rattle.refusal.proofs.Conditions.{need→}
+use Rattle.refusal.proofs.Conditions.{Chain, Tells, at-most-tells, need→, stations-tell, test}
 use Rattle.refusal.proofs.Stations.{Sized, stations→}
-use Rattle.refusal.specs.Verdicts.{accepted, areStations}
+use Rattle.refusal.specs.Conditions.{Conditions}
+use Rattle.refusal.specs.Verdicts.{Verdict, accepted, areStations, need, refused}
+use Rattle.refusal.specs.declared.Refusal.the-variants.{Holes, Kind, Stations}
 use Rattle.words.specs.Symbols.{firstWrong}
+
+-- ---- as chains of conditions
+
+kind-tells : (kind : ℕ) → Tells (isKind kind) (NoKind kind)
+unfolding isKind
+kind-tells zero = (λ e. (λ z. omega arith, λ z. omega arith), λ e. absurd (false≢true e))
+kind-tells (suc zero) = (λ e. absurd (true≢false e), λ e h. h .0 refl)
+kind-tells (suc (suc zero)) = (λ e. absurd (true≢false e), λ e h. h .1 refl)
+kind-tells (suc (suc (suc k))) = (λ e. (λ z. omega arith, λ z. omega arith), λ e. absurd (false≢true e))
+
+-- 1, 2 and 5, and what follows them
+pub drawer-chain : (n d kind : ℕ) {rest : Conditions} {v : Verdict} → Chain rest v → Chain (drawerConditions n d kind rest) (drawerNeeds n d kind v)
+drawer-chain n d kind more = test _ (stations-tell n) (λ a. test _ (at-most-tells d n) (λ b. test _ (kind-tells kind) (λ c. more)))
+
+-- ---- first (n, d) and the kind, then the rest
+
+abbrev pub andThen : Verdict → Verdict → Verdict
+andThen accepted v = v
+andThen (refused r) v = refused r
+
+pub drawer-then : (n d kind : ℕ) (v : Verdict) → drawerNeeds n d kind v ≡ andThen (drawerVerdict n d kind) v
+unfolding drawerVerdict
+drawer-then n d kind v = go (areStations n) (leb d n) (isKind kind)
+  where
+    go : (a b c : Bool) → need a Stations (need b Holes (need c Kind v)) ≡ andThen (need a Stations (need b Holes (need c Kind accepted))) v
+    go false b c = refl
+    go true false c = refl
+    go true true false = refl
+    go true true true = refl
+
+-- ---- what was tested of a drawer and a limit that are accepted
 
 pub record Passed (n d kind : ℕ) (limit : List ℕ) : Type 0 where
   pub sized : Sized n

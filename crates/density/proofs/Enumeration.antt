@@ -1,12 +1,10 @@
 -- All rows of n symbols: which they are, and that they fall.
 use mathlib.Core.List.{List, List·Memᴰ, List·Memᴰ·append-cases, List·Memᴰ·eq-of-singleton, List·Memᴰ·head, List·Memᴰ·not-nil, Memᴰ·append-left, Memᴰ·append-right, Memᴰ·map, Memᴰ·of-map, [], map, _∷_}
 use mathlib.Core.Logic.{inl, inr, _⊎_}
-use mathlib.Core.Path.{ap, refl, _∙_, _≡_}
-use Prim.Native.Nat.{suc, zero, ℕ, _^_}
-use native.Mathlib.Nat.{pow-suc}
-use native.Mathlib.Omega.{arith}
+use mathlib.Core.Path.{ap, refl, _≡_}
+use Prim.Native.Nat.{suc, zero, ℕ}
 use lib.Dec.{lit<}
-use lib.ListN.{length, length-append, length-map}
+use lib.ListN.{length}
 use Rattle.density.proofs.Binary.{Binary, empty, one∷, zero∷}
 use Rattle.density.specs.Density.{allRows}
 use Rattle.words.proofs.Below.{here, _≺_}
@@ -47,10 +45,3 @@ rows-falling (suc n) = falling-append (falling-map 1 (rows-falling n)) (falling-
         let q = Memᴰ·of-map (λ w. 1 ∷ w) (allRows n) m in
         let r = Memᴰ·of-map (λ w. 0 ∷ w) (allRows n) k in
         rw (← q .2, ← r .2) (here (lit< tt))
-
-pub rows-count : (n : ℕ) → length (allRows n) ≡ 2 ^ n
-unfolding allRows
-rows-count zero = refl
-rows-count (suc n) =
-    length-append (map (λ w. 1 ∷ w) (allRows n)) (map (λ w. 0 ∷ w) (allRows n))
-    ∙ rw (length-map (allRows n) (λ w. 1 ∷ w), length-map (allRows n) (λ w. 0 ∷ w), rows-count n, pow-suc) (omega arith)

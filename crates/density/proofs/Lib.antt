@@ -3,7 +3,7 @@ pub mod Counts
 pub mod Binary
 pub mod Enumeration
 pub mod Members
-pub mod DrawerSize
+pub mod RowCounts
 -- the largest necklace of (n, d): prefix sums, the balanced row, the lowest rotation of a row
 pub mod Sums
 pub mod BalancedRow

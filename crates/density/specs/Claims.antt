@@ -3,19 +3,36 @@ use mathlib.Core.Bool.{true}
 use mathlib.Core.List.{List, List·Memᴰ}
 use mathlib.Core.Logic.{_↔_}
 use mathlib.Core.Path.{_≡_}
-use Prim.Native.Nat.{ℕ}
+use Prim.Native.Nat.{suc, ℕ, _+_, _<_}
 use lib.ListN.{length}
+use Rattle.density.specs.Choose.{choose, rowsOf}
 use Rattle.density.specs.Density.{density}
 use Rattle.density.specs.Necklaces.{necklaces, necklacesOfKind}
 use Rattle.words.specs.Symbols.{Within}
 use Rattle.words.specs.Falling.{Falling}
 use Rattle.words.specs.Rotation.{isLyndon, isNecklace}
 
--- a shelved row of n symbols with d holes
-pub record InDrawer (n d : ℕ) (w : List ℕ) : Type 0 where
+-- ---- the ways to choose stations
+
+-- "Ends are 1, inner entries the sum of the two above"; past the end there is no way.
+abbrev pub Rule : Type 0
+Rule = (n d : ℕ) → (choose n 0 ≡ 1) × (choose n n ≡ 1) × (choose (suc n) (suc d) ≡ choose n d + choose n (suc d)) × (n < d → choose n d ≡ 0)
+
+-- a row of n symbols with d holes
+pub record OfDensity (n d : ℕ) (w : List ℕ) : Type 0 where
   pub long : length w ≡ n
   pub symbols : Within 2 w
   pub holes : density w ≡ d
+
+-- The rows of n symbols with d holes, each once, are as many as there are ways to choose d stations of n.
+abbrev pub Chosen : Type 0
+Chosen = (n d : ℕ) → Falling (rowsOf n d) × ((w : List ℕ) → List·Memᴰ w (rowsOf n d) ↔ OfDensity n d w) × (length (rowsOf n d) ≡ choose n d)
+
+-- ---- drawers
+
+-- a shelved row of n symbols with d holes
+pub record InDrawer (n d : ℕ) (w : List ℕ) : Type 0 where
+  pub row : OfDensity n d w
   pub shelved : isNecklace w ≡ true
 
 -- "Drawer (n, d): the shelved rows of n symbols with d holes"; each stands there once, falling

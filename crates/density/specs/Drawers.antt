@@ -1,4 +1,4 @@
--- A drawer of a kind and a limit, (n, d, kind, limit): what is refused of them.
+-- A drawer of a kind, (n, d, kind), and with a limit, (n, d, kind, limit): what is refused of them.
 use mathlib.Core.List.{List}
 use mathlib.Core.Logic.{_⊎_}
 use mathlib.Core.Path.{_≡_}
@@ -13,14 +13,20 @@ use Rattle.refusal.specs.Verdicts.{Verdict, accepted, refused, need, areStation
 use Rattle.density.specs.Necklaces.{isKind}
 use Rattle.density.specs.declared.drawers.Checked.{Checked}
 
+-- 1, 2 and 5, in that order, before the rest
+abbrev pub drawerNeeds : ℕ → ℕ → ℕ → Verdict → Verdict
+drawerNeeds n d kind rest = need (areStations n) Stations (need (leb d n) Holes (need (isKind kind) Kind rest))
+
+-- "Refusals 1, 2 and 5 apply, in that order."
+unfoldable pub drawerVerdict : ℕ → ℕ → ℕ → Verdict
+drawerVerdict n d kind = drawerNeeds n d kind accepted
+
 -- "Orders. Open: 1, 2, 5, 4, 3."
 unfoldable pub openVerdict : ℕ → ℕ → ℕ → List ℕ → Verdict
 openVerdict n d kind limit =
-    need (areStations n) Stations
-    (need (leb d n) Holes
-    (need (isKind kind) Kind
+    drawerNeeds n d kind
     (need (eqb (length limit) n) Limit
-    (need (eqb (firstWrong 2 limit) 0) (Symbol (firstWrong 2 limit)) accepted))))
+    (need (eqb (firstWrong 2 limit) 0) (Symbol (firstWrong 2 limit)) accepted))
 
 -- the verdict that each answer of a check tells
 abbrev pub checkedVerdict : Checked → Verdict
@@ -33,14 +39,16 @@ checkedVerdict (Checked.Refused r) = refused r
 abbrev pub NoKind : ℕ → Type 0
 NoKind kind = (kind ≡ 1 → ⊥) × (kind ≡ 2 → ⊥)
 
+-- 1, 2 and 5, before the rest
+abbrev pub drawerConditions : ℕ → ℕ → ℕ → Conditions → Conditions
+drawerConditions n d kind rest = when (NoStations n) Stations (when (n < d) Holes (when (NoKind kind) Kind rest))
+
 -- 1, 2, 5, 4, 3
 abbrev pub openConditions : ℕ → ℕ → ℕ → List ℕ → Conditions
 openConditions n d kind limit =
-    when (NoStations n) Stations
-    (when (n < d) Holes
-    (when (NoKind kind) Kind
+    drawerConditions n d kind
     (when (length limit ≡ n → ⊥) Limit
-    (when (FirstOther 2 limit (firstWrong 2 limit)) (Symbol (firstWrong 2 limit)) no-more))))
+    (when (FirstOther 2 limit (firstWrong 2 limit)) (Symbol (firstWrong 2 limit)) no-more))
 
 -- none of the conditions for the input
 pub record NoCondition (n d kind : ℕ) (limit : List ℕ) : Type 0 where

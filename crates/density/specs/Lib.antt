@@ -1,5 +1,6 @@
 -- Binary rows.
 pub mod Density
+pub mod Choose
 pub mod Rows
 pub mod Necklaces
 pub mod InnerBalanced

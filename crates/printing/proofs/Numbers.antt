@@ -1,4 +1,4 @@
--- A drawer's rings can be numbered by 64 bits: of its 2 ^ n rows not all are rings.
+-- A drawer's rings can be numbered by 64 bits: the ways to choose d of n are fewer than 2 ^ n.
 use mathlib.Core.Bool.{_&&_}
 use mathlib.Core.List.{List}
 use mathlib.Core.Path.{ap}
@@ -6,21 +6,19 @@ use Prim.Native.Nat.{ℕ, _^_, _≤_}
 use native.Mathlib.Nat.{pow-le-pow-right}
 use native.Mathlib.Omega.{arith}
 use lib.ListN.{length}
-use Rattle.density.proofs.DrawerSize.{drawer-fewer}
-use Rattle.density.specs.Necklaces.{necklaces}
+use Rattle.density.proofs.RowCounts.{choose-under, few-rings}
 use Rattle.listing.proofs.RingsNamed.{rings-listing}
 use Rattle.listing.specs.Listing.{listing}
 use Rattle.listing.specs.Totals.{ringsOf}
 use Rattle.printing.specs.Left.{highest64}
 use Rattle.walk.proofs.Demand.{Admitted}
 use Rattle.walk.specs.Moves.{rules}
-use Rattle.words.proofs.Falling.{keep-fewer}
 use Rattle.words.specs.Order.{le}
 
 -- the lines of a book
 pub numbered : (n d kind : ℕ) (limit : List ℕ) → Admitted rules n d kind limit → length (ringsOf (listing n d (rules .ofKind kind) limit)) ≤ highest64
 numbered n d kind limit o =
     let e = ap length (rings-listing n d (rules .ofKind kind) limit (o .long) (o .binary)) in
-    let h = keep-fewer (λ r. le r limit && rules .ofKind kind r) (necklaces n d) in
+    let h = few-rings n d (λ r. le r limit && rules .ofKind kind r) in
     let p : 2 ^ n ≤ 2 ^ 64 = pow-le-pow-right (omega arith) (o .most) in
-    omega (arith, e, h, drawer-fewer n d (o .stations))
+    omega (arith, e, h, choose-under n d (o .stations))

@@ -1,5 +1,5 @@
 -- A verdict by what it decides, and the numbers that are told.
-use mathlib.Core.Path.{refl, _≡_}
+use mathlib.Core.Path.{ap, refl, _≡_}
 use Rattle.refusal.specs.Outcomes.{GivenNumbers, Outcome, RefusedNumbers, decide, given}
 use Rattle.refusal.specs.Verdicts.{Verdict, accepted}
 use Rattle.refusal.specs.declared.Refusal.{Refusal}
@@ -13,6 +13,11 @@ module _ {A : Type 0} where
   pub refused-so : (v : Verdict) (a : A) (r : Refusal) → decide v a ≡ Outcome.refused r → v ≡ Verdict.refused r
   refused-so accepted a r e = clash (cc)
   refused-so (Verdict.refused q) a r e = cc
+
+  -- what is given matters only where the verdict accepts
+  pub decide-on : (v : Verdict) {a b : A} → (v ≡ accepted → a ≡ b) → decide v a ≡ decide v b
+  decide-on accepted h = ap given (h refl)
+  decide-on (Verdict.refused r) h = refl
 
 pub refused-numbers : RefusedNumbers
 refused-numbers A zero a r = (refl, refl, refl)

@@ -1,15 +1,17 @@
 -- The claims on opening a walk, and on the steps that follow, hold.
-use mathlib.Core.Bool.{false≢true, true≢false}
+use mathlib.Core.Bool.{_&&_}
 use mathlib.Core.List.{List, [], append-cancel-left, append-nil, _++_, _∷_}
 use mathlib.Core.Logic.{inl, inr, _↔_, _⊎_}
 use mathlib.Core.Path.{ap, refl, subst, sym, _∙_, _≡_}
 use Prim.Native.Nat.{suc, zero, ℕ, _*_, _-_}
 use native.Mathlib.Omega.{arith}
-use lib.ListN.{length}
+use lib.ListN.{length, length-append}
 use Rattle.density.proofs.Binary.{binary-within}
+use Rattle.density.proofs.DrawerVerdicts.{drawer-chain}
 use Rattle.density.proofs.KindTests.{one-of}
+use Rattle.density.proofs.RowCounts.{few-rings}
 use Rattle.density.proofs.Wanted.{first-ring, next-ring, rings-falling}
-use Rattle.density.specs.Necklaces.{isKind, ofKind}
+use Rattle.density.specs.Necklaces.{ofKind}
 use Rattle.listing.proofs.ListingLeft.{Remaining, ended→, left-few, left→said, named-wanted, none→, owed-few, remaining, ring→, said→left, spent→, to-come, →ended, →none, →paid, →ring, →spent}
 use Rattle.listing.proofs.PlacesNamed.{ring-places}
 use Rattle.listing.proofs.Prices.{raise-zero}
@@ -19,38 +21,27 @@ use Rattle.listing.proofs.TrialBounds.{kind-1-prices, prices, starts-few}
 use Rattle.listing.specs.Listing.{Listing, book, listingAnswers, listingStep, over}
 use Rattle.listing.specs.Places.{leaving, ringPlaces}
 use Rattle.listing.specs.Totals.{AtMost, SaysNone, listingLeft, named, ringsOf}
-use Rattle.refusal.proofs.Conditions.{Tells, accepted-exactly, at-most-tells, chain-first, equal-tells, passed, stations-tell, test}
+use Rattle.refusal.proofs.Conditions.{accepted-exactly, chain-first, equal-tells, passed, test}
 use Rattle.refusal.specs.Conditions.{NoStations, NoneHolds}
 use Rattle.refusal.specs.Verdicts.{accepted}
 use Rattle.walk.proofs.Demand.{Admitted, accepted-opening, answers-agree, fresh-fit, fresh-kept, fresh-stands, handed-stands, stays-fit}
 use Rattle.walk.proofs.Invariant.{Fit}
 use Rattle.walk.proofs.Places.{answers-placed}
 use Rattle.walk.proofs.StepAgrees.{step-agrees}
-use Rattle.walk.specs.Claims.{Demand3, Demand3Places, EndedNext, FirstRing, Kind1Trials, NamedAll, NamedFalling, NeverSpent, NeverUnfit, NextRing, NoneNext, OpenAccepts, OpenRefusals, Opening, RingNext, RingPlaces, SpentNext, TakenAlike, TakenListed, Trials, TrialsNext, answers, bookOf, given, next, opened, wantedOf}
+use Rattle.walk.specs.Claims.{Ceiling, Demand3, Demand3Places, EndedNext, FirstRing, Kind1Trials, NamedAll, NamedFalling, NeverSpent, NeverUnfit, NextRing, NoneNext, OpenAccepts, OpenRefusals, Opening, RingNext, RingPlaces, SpentNext, TakenAlike, TakenListed, Trials, TrialsNext, answers, bookOf, given, next, opened, wantedOf}
 use Rattle.walk.specs.Moves.{keptOf, rules}
 use Rattle.walk.specs.Opening.{NoCondition, NoKind, fresh, openConditions, openVerdict, openWalk}
 use Rattle.walk.specs.Step.{handed}
 use Rattle.walk.specs.ToCome.{stands}
 use Rattle.words.proofs.Claims.{other-tells}
+use Rattle.words.specs.Order.{le}
 
 -- ---- opening
-
-kind-tells : (kind : ℕ) → Tells (isKind kind) (NoKind kind)
-unfolding isKind
-kind-tells zero = (λ e. (λ z. omega arith, λ z. omega arith), λ e. absurd (false≢true e))
-kind-tells (suc zero) = (λ e. absurd (true≢false e), λ e h. h .0 refl)
-kind-tells (suc (suc zero)) = (λ e. absurd (true≢false e), λ e h. h .1 refl)
-kind-tells (suc (suc (suc k))) = (λ e. (λ z. omega arith, λ z. omega arith), λ e. absurd (false≢true e))
 
 pub open-refusals : OpenRefusals
 unfolding openVerdict
 open-refusals n d kind limit =
-    chain-first
-    (test _ (stations-tell n)
-    (λ a. test _ (at-most-tells d n)
-    (λ b. test _ (kind-tells kind)
-    (λ c. test _ (equal-tells (length limit) n)
-    (λ e. test _ (other-tells 2 limit) (λ f. passed))))))
+    chain-first (drawer-chain n d kind (test _ (equal-tells (length limit) n) (λ e. test _ (other-tells 2 limit) (λ f. passed))))
 
 pub open-accepts : OpenAccepts
 open-accepts n d kind limit = (admits, λ c. accepted-exactly (openConditions n d kind limit) _ (open-refusals n d kind limit) .1 (none-holds c))
@@ -144,6 +135,11 @@ named-falling o steps = rings-falling (o .n) (o .d) (ofKind (o .kind)) (o .limit
 pub named-all : NamedAll
 unfolding ringsOf
 named-all o steps s = none-left o steps .0 (ap ringsOf (said-none o steps .0 s))
+
+pub ceiling : Ceiling
+ceiling o steps =
+    let all = sym (length-append (given o steps) (ringsOf (left o steps))) ∙ ap length (given-left o steps) in
+    omega (arith, all, few-rings (o .n) (o .d) (λ r. le r (o .limit) && ofKind (o .kind) r))
 
 pub ring-next : RingNext
 ring-next o steps a r = (

@@ -5,6 +5,7 @@ use mathlib.Core.Logic.{_↔_, _⊎_}
 use mathlib.Core.Path.{_≡_}
 use Prim.Native.Nat.{ℕ, _*_, _-_, _<_, _≤_}
 use lib.ListN.{length}
+use Rattle.density.specs.Choose.{choose}
 use Rattle.density.specs.Necklaces.{necklaces, ofKind, wanted}
 use Rattle.refusal.specs.Conditions.{FirstOf}
 use Rattle.refusal.specs.Verdicts.{accepted, mostStations}
@@ -169,6 +170,10 @@ NamedFalling = (o : Opening) (steps : List ℕ) → Falling (given o steps)
 -- a list of steps that reaches none has named each ring
 abbrev pub NamedAll : Type 0
 NamedAll = (o : Opening) (steps : List ℕ) → SaysNone (answers o steps) → given o steps ≡ wantedOf o
+
+-- "A walk from any limit must yield at most that many": the ways to choose d stations of n, whatever the kind and the allowances
+abbrev pub Ceiling : Type 0
+Ceiling = (o : Opening) (steps : List ℕ) → length (given o steps) ≤ choose (o .n) (o .d)
 
 -- what a step with this allowance says after these, with its trials; and the trials that the book then owes
 abbrev pub next : Opening → List ℕ → ℕ → Told

@@ -139,16 +139,6 @@ keep-fewer p (x ∷ l) = go (p x) (keep-fewer p l)
     go true h = omega arith
     go false h = omega arith
 
--- a filter that a row of the list fails
-pub keep-less : (p : List ℕ → Bool) {x : List ℕ} {l : List (List ℕ)} → List·Memᴰ x l → p x ≡ false → length (keep p l) < length l
-unfolding keep
-keep-less p (List·Memᴰ·head {xs = l} q) e = rw (← q, e) (omega (arith, keep-fewer p l))
-keep-less p (List·Memᴰ·tail {x = y} {xs = l} m) e = go (p y) (keep-less p m e)
-  where
-    go : (b : Bool) → length (keep p l) < length l → length (cond b (y ∷ keep p l) (keep p l)) < suc (length l)
-    go true h = omega arith
-    go false h = omega arith
-
 -- ---- the rows below one
 
 -- in a falling list, what is below x is its first and what is below that

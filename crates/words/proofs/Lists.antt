@@ -1,6 +1,6 @@
 -- Filters, searches and prefixes of lists: what the tests mean.
 use mathlib.Core.Bool.{Bool, and-eq-true-iff, cond, false, false≢true, or-true, true, _&&_, _||_}
-use mathlib.Core.List.{List, List·Memᴰ, List·Memᴰ·cases-cons, List·Memᴰ·head, List·Memᴰ·not-nil, List·Memᴰ·tail, [], _++_, _∷_}
+use mathlib.Core.List.{List, List·Memᴰ, List·Memᴰ·cases-cons, List·Memᴰ·head, List·Memᴰ·not-nil, List·Memᴰ·tail, [], map, _++_, _∷_}
 use mathlib.Core.Logic.{inl, inr, _⊎_}
 use mathlib.Core.Path.{ap, refl, _≡_}
 use Prim.Native.Nat.{ℕ}
@@ -50,6 +50,26 @@ pub keep-all : (p : List ℕ → Bool) (l : List (List ℕ)) → ((w : List ℕ)
 unfolding keep
 keep-all p [] h = refl
 keep-all p (w ∷ l) h = rw (h w (List·Memᴰ·head refl), keep-all p l (λ v m. h v (List·Memᴰ·tail m)))
+
+-- a filter of one list behind another, and of rows that all begin with x
+pub keep-append : (p : List ℕ → Bool) (a b : List (List ℕ)) → keep p (a ++ b) ≡ keep p a ++ keep p b
+unfolding keep
+keep-append p [] b = refl
+keep-append p (w ∷ a) b = go (p w) (keep-append p a b)
+  where
+    go : (t : Bool) → keep p (a ++ b) ≡ keep p a ++ keep p b → cond t (w ∷ keep p (a ++ b)) (keep p (a ++ b)) ≡ cond t (w ∷ keep p a) (keep p a) ++ keep p b
+    go true e = ap {B = List (List ℕ)} (λ t. w ∷ t) e
+    go false e = e
+
+pub keep-map : (p : List ℕ → Bool) (x : ℕ) (l : List (List ℕ)) → keep p (map (λ w. x ∷ w) l) ≡ map (λ w. x ∷ w) (keep (λ w. p (x ∷ w)) l)
+unfolding keep
+keep-map p x [] = refl
+keep-map p x (w ∷ l) = go (p (x ∷ w)) (keep-map p x l)
+  where
+    go : (t : Bool) → keep p (map (λ w. x ∷ w) l) ≡ map (λ w. x ∷ w) (keep (λ w. p (x ∷ w)) l)
+        → cond t ((x ∷ w) ∷ keep p (map (λ w. x ∷ w) l)) (keep p (map (λ w. x ∷ w) l)) ≡ map (λ w. x ∷ w) (cond t (w ∷ keep (λ w. p (x ∷ w)) l) (keep (λ w. p (x ∷ w)) l))
+    go true e = ap {B = List (List ℕ)} (λ t. (x ∷ w) ∷ t) e
+    go false e = e
 
 -- of a filter's rows, those that pass another test
 pub keep-keep : (p q : List ℕ → Bool) (l : List (List ℕ)) → keep q (keep p l) ≡ keep (λ r. p r && q r) l

@@ -1,0 +1,3 @@
+-- The length of a drawer.
+pub mod Answers
+pub mod Claims

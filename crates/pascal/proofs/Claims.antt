@@ -1,0 +1,32 @@
+-- The claims on the table and its look-up hold.
+use mathlib.Core.Bool.{true}
+use mathlib.Core.Path.{refl, _≡_}
+use Prim.Native.Nat.{suc, _*_, _+_, _-_, _/_, _^_}
+use native.Mathlib.Omega.{arith}
+use Rattle.pascal.proofs.Rows.{entry-chosen}
+use Rattle.pascal.specs.Answers.{waysVerdict}
+use Rattle.pascal.specs.Claims.{Entries, EntryChosen, Fits, WaysRefusals}
+use Rattle.pascal.specs.Pascal.{entryOf, lastRow, rowsFrom, sums, triangle}
+use Rattle.refusal.proofs.Conditions.{at-most-tells, chain-first, passed, test}
+use Rattle.words.proofs.HighestSymbol.{up-to→}
+use Rattle.words.specs.Symbols.{allUpTo}
+
+pub entries : Entries
+unfolding triangle rowsFrom sums
+entries = refl
+
+pub entry-is : EntryChosen
+entry-is = entry-chosen
+
+-- every number of the table has at most 64 bits, by one computation
+all-fit : allUpTo (2 ^ 64 - 1) (triangle (suc lastRow)) ≡ true
+unfolding triangle rowsFrom sums allUpTo
+all-fit = refl
+
+pub fits : Fits
+unfolding entryOf
+fits n d h l = omega (arith, entry-chosen (suc lastRow) n d (omega arith) l, up-to→ (2 ^ 64 - 1) (triangle (suc lastRow)) all-fit (n * (n + 1) / 2 + d))
+
+pub ways-refusals : WaysRefusals
+unfolding waysVerdict
+ways-refusals top bottom = chain-first (test _ (at-most-tells top lastRow) (λ a. test _ (at-most-tells bottom top) (λ b. passed)))

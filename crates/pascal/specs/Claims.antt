@@ -1,0 +1,25 @@
+-- What is claimed of the table and of its look-up.
+use mathlib.Core.Path.{_≡_}
+use Prim.Native.Nat.{suc, ℕ, _<_, _^_, _≤_}
+use lib.ListN.{length}
+use Rattle.density.specs.Choose.{choose}
+use Rattle.pascal.specs.Answers.{waysVerdict}
+use Rattle.pascal.specs.Pascal.{entryOf, lastRow, triangle}
+use Rattle.refusal.specs.Conditions.{FirstOf, no-more, when}
+use Rattle.refusal.specs.declared.Refusal.the-variants.{Holes, Stations}
+
+-- "2,145 numbers"
+abbrev pub Entries : Type 0
+Entries = length (triangle (suc lastRow)) ≡ 2145
+
+-- the entry for (n, d) is the ways to choose d of n, in a table of any number of rows
+abbrev pub EntryChosen : Type 0
+EntryChosen = (m n d : ℕ) → n < m → d ≤ n → entryOf (triangle m) n d ≡ choose n d
+
+-- the ways for up to 64 stations fit 64 bits
+abbrev pub Fits : Type 0
+Fits = (n d : ℕ) → n ≤ lastRow → d ≤ n → choose n d < 2 ^ 64
+
+-- "A top above 64 gets refusal 1, a bottom above the top refusal 2."
+abbrev pub WaysRefusals : Type 0
+WaysRefusals = (top bottom : ℕ) → FirstOf (when (lastRow < top) Stations (when (top < bottom) Holes no-more)) (waysVerdict top bottom)
