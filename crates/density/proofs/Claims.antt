@@ -1,11 +1,10 @@
 -- The claims on the drawers hold, over every n and d.
 use mathlib.Core.Bool.{Bool}
 use mathlib.Core.List.{List, List·Memᴰ}
-use mathlib.Core.Path.{refl, subst, _≡_}
+use mathlib.Core.Path.{refl, subst}
 use Prim.Native.Nat.{ℕ}
 use borrow.Author.Tests.{eq-eqb, eqb-true}
 use lib.Dec.{eqb}
-use lib.ListN.{length}
 use Rattle.density.proofs.Binary.{within-binary, binary-within}
 use Rattle.density.proofs.Enumeration.{in-rows, out-rows, rows-falling}
 use Rattle.density.proofs.Members.{member→, necklaces-falling, →member}

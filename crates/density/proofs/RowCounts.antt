@@ -1,6 +1,6 @@
 -- The rows of n symbols and density d number `choose n d`, and the necklaces of (n, d) are among them.
 use mathlib.Core.Bool.{Bool, false, true, true≢false}
-use mathlib.Core.List.{List, map, _++_, _∷_}
+use mathlib.Core.List.{List, map, _∷_}
 use mathlib.Core.Path.{ap, ap₂, refl, sym, _∙_, _≡_}
 use Prim.Native.Nat.{suc, zero, ℕ, _+_, _<_, _^_, _≤_}
 use native.Mathlib.Nat.{two-pow-succ}

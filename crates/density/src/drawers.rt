@@ -12,7 +12,7 @@ pub enum Checked {
 }
 
 // Checks (n, d) and a kind.
-pub fn check_kind(n: usize, d: usize, kind: u8) -> Checked
+pub fn check_drawer(n: usize, d: usize, kind: u8) -> Checked
     ensures { λ r. ⌜ checkedVerdict r ≡ drawerVerdict n d kind ⌝ }
 {
     if !are_stations(n) {
@@ -28,10 +28,10 @@ pub fn check_kind(n: usize, d: usize, kind: u8) -> Checked
 }
 
 // Checks (n, d), a kind and a limit.
-pub fn check_drawer(n: usize, d: usize, kind: u8, limit: &[u8]) -> Checked
+pub fn check_opening(n: usize, d: usize, kind: u8, limit: &[u8]) -> Checked
     ensures { λ r. ⌜ checkedVerdict r ≡ openVerdict n d kind (now (limit .entry)) ⌝ }
 {
-    let checked = check_kind(n, d, kind);
+    let checked = check_drawer(n, d, kind);
     match checked {
         Checked::Refused(r) => {
             return Checked::Refused(r);

@@ -17,7 +17,7 @@ pub enum Length {
 pub fn ceiling(n: usize, d: usize, kind: u8) -> Length
     ensures { λ r. ⌜ lengthOutcome r ≡ decide (drawerVerdict n d kind) (choose n d) ⌝ }
 {
-    let checked = density::drawers::check_kind(n, d, kind);
+    let checked = density::drawers::check_drawer(n, d, kind);
     match checked {
         Checked::Refused(r) => {
             return Length::Refused(r);

@@ -2,7 +2,7 @@
 use mathlib.Core.List.{List, [], _++_, _∷_}
 use mathlib.Core.Path.{ap, ap₂, refl, sym, _∙_, _≡_}
 use Prim.Native.Nat.{suc, zero, ℕ, _*_, _+_, _/_, _<_, _≤_}
-use native.Mathlib.Nat.{add-assoc, mul-div-cancel}
+use native.Mathlib.Nat.{mul-div-cancel}
 use native.Mathlib.Omega.{arith}
 use lib.ListN.{List·getD-append, getD, length}
 use lib.Seq.{getD-append-add}

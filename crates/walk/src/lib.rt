@@ -112,7 +112,7 @@ impl Walk {
         ensures answer { λ r. ⌜ openOutcome (r .answer) ≡ decide (openVerdict n d kind (now (limit .entry))) tt ⌝ }
         ensures walk { λ r. ⌜ r .walk ≡ openWalk (openVerdict n d kind (now (limit .entry))) rules n d kind (now (limit .entry)) ⌝ }
     {
-        let checked = density::drawers::check_drawer(n, d, kind, limit);
+        let checked = density::drawers::check_opening(n, d, kind, limit);
         if let Checked::Refused(r) = checked {
             return Opened {
                 walk: Walk::refused(),

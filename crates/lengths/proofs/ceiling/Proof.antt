@@ -13,10 +13,10 @@ use Rattle.lengths.proofs.ceiling.Tie as tie
 returns : tie.Need-returns
 returns c =
     let k = c .before in
-    rw (sym (k .before .before .check-kind .ensures) ∙ ap checkedVerdict (k .checked .given .1)) refl
+    rw (sym (k .before .before .check-drawer .ensures) ∙ ap checkedVerdict (k .checked .given .1)) refl
 
 passes : (c : tie.After-enum-told) → let a = c .before .before .before .args in drawerVerdict (a .n) (a .d) (a .kind) ≡ accepted
-passes c = sym (c .before .before .check-kind .ensures) ∙ ap checkedVerdict (c .enum-told .given .1)
+passes c = sym (c .before .before .check-drawer .ensures) ∙ ap checkedVerdict (c .enum-told .given .1)
 
 -- what the look-up decides, the drawer does
 same : (c : tie.After-enum-told) → let a = c .before .before .before .args in decide (waysVerdict (a .n) (a .d)) (choose (a .n) (a .d)) ≡ decide (drawerVerdict (a .n) (a .d) (a .kind)) (choose (a .n) (a .d))

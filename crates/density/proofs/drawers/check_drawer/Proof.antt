@@ -1,47 +1,43 @@
--- `density::drawers::check_drawer` meets its contract: what is refused of the drawer, and else of the limit.
-use mathlib.Core.Path.{ap, sym, _∙_, _≡_}
+-- `density::drawers::check_drawer` meets its contract: each return has passed the tests before it.
+use mathlib.Core.Bool.{true}
+use mathlib.Core.Path.{sym, _∙_, _≡_}
 use borrow.Author.Needs.{needs}
-use borrow.Author.Tests.{eq-eqb, ne-eqb}
-use Rattle.density.proofs.DrawerVerdicts.{drawer-then}
-use Rattle.density.specs.Drawers.{checkedVerdict, drawerVerdict, openVerdict}
-use Rattle.refusal.specs.Verdicts.{accepted}
+use borrow.Author.Tests.{le-leb, lt-leb, not-false, not-true}
+use Rattle.density.specs.Drawers.{drawerVerdict}
+use Rattle.refusal.specs.Verdicts.{areStations}
 use Rattle.density.proofs.drawers.check_drawer.Statement.{statement}
 use Rattle.density.proofs.drawers.check_drawer.Tie as tie
 
-returns : tie.Need-returns
-unfolding openVerdict
-returns c =
-    let k = c .before in
-    rw (drawer-then, sym (k .before .before .check-kind .ensures) ∙ ap checkedVerdict (k .checked .given .1))
+-- refusal 1 is passed
+sized : (c : tie.Else1) → areStations (c .before .before .args .n) ≡ true
+sized c = sym (c .before .are-stations .ensures) ∙ not-false _ (c .if1 .left)
 
--- the drawer is accepted
-passes : (c : tie.After-enum-told) → let a = c .before .before .before .before .args in drawerVerdict (a .n) (a .d) (a .kind) ≡ accepted
-passes c = sym (c .before .before .check-kind .ensures) ∙ ap checkedVerdict (c .enum-told .given .1)
+returns : tie.Need-returns
+unfolding drawerVerdict
+returns c = rw (sym (c .before .are-stations .ensures) ∙ not-true _ (c .if1 .taken))
 
 returns-2 : tie.Need-returns-2
-unfolding openVerdict
-returns-2 c = rw (drawer-then, passes (c .before), ne-eqb _ _ (c .if1 .taken))
+unfolding drawerVerdict
+returns-2 c = rw (sized (c .before), lt-leb _ _ (c .if2 .taken))
 
 returns-3 : tie.Need-returns-3
-unfolding openVerdict
+unfolding drawerVerdict
 returns-3 c =
-    let w = c .before in
-    rw (drawer-then, passes (w .before .before), eq-eqb _ _ (w .before .if1 .left), ← w .first-wrong .ensures, ne-eqb _ _ (c .if2 .taken))
+    let k = c .before in
+    rw (sized (k .before .before), le-leb _ _ (k .before .if2 .left), sym (k .is-kind .ensures) ∙ not-true _ (c .if3 .taken))
 
 returns-4 : tie.Need-returns-4
-unfolding openVerdict
+unfolding drawerVerdict
 returns-4 c =
-    let w = c .before in
-    rw (drawer-then, passes (w .before .before), eq-eqb _ _ (w .before .if1 .left), ← w .first-wrong .ensures, eq-eqb _ _ (c .if2 .left))
+    let k = c .before in
+    rw (sized (k .before .before), le-leb _ _ (k .before .if2 .left), sym (k .is-kind .ensures) ∙ not-false _ (c .if3 .left))
 
 pub check-drawer-spec : {M : Type 1} → statement M
 check-drawer-spec =
     tie.close
     (tie.spec
     (λ c κs. search needs)
-    (λ c. search needs)
     returns
-    (λ c. search needs)
     returns-2
     (λ c κs. search needs)
     returns-3

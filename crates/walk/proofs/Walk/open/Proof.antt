@@ -14,11 +14,11 @@ use Rattle.walk.proofs.Walk.«open».Tie as tie
 returns : tie.Need-returns
 returns c =
     let k = c .before .before in
-    rw (sym (k .before .before .check-drawer .ensures) ∙ ap checkedVerdict (k .checked .given .1)) (refl, c .refused .ensures)
+    rw (sym (k .before .before .check-opening .ensures) ∙ ap checkedVerdict (k .checked .given .1)) (refl, c .refused .ensures)
 
 -- what was checked is accepted
 passes : (c : tie.After-enum-told) → let a = c .before .before .before .before .args in openVerdict (a .n) (a .d) (a .kind) (a .limit .now) ≡ accepted
-passes c = sym (c .before .before .check-drawer .ensures) ∙ ap checkedVerdict (c .enum-told .given .1)
+passes c = sym (c .before .before .check-opening .ensures) ∙ ap checkedVerdict (c .enum-told .given .1)
 
 checked : (c : tie.After-enum-told) → let a = c .before .before .before .before .args in Passed (a .n) (a .d) (a .kind) (a .limit .now)
 checked c = accepted→ _ _ _ _ (passes c)
