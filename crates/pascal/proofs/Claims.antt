@@ -1,11 +1,13 @@
 -- The claims on the table and its look-up hold.
 use mathlib.Core.Bool.{true}
-use mathlib.Core.Path.{refl, _≡_}
+use mathlib.Core.Path.{refl, _∙_, _≡_}
 use Prim.Native.Nat.{suc, _*_, _+_, _-_, _/_, _^_}
 use native.Mathlib.Omega.{arith}
+use Rattle.density.proofs.RowCounts.{choose-all}
+use Rattle.density.specs.Choose.{choose}
 use Rattle.pascal.proofs.Rows.{entry-chosen}
 use Rattle.pascal.specs.Answers.{waysVerdict}
-use Rattle.pascal.specs.Claims.{Entries, EntryChosen, Fits, WaysRefusals}
+use Rattle.pascal.specs.Claims.{Entries, EntryChosen, Fits, TableRule, WaysRefusals}
 use Rattle.pascal.specs.Pascal.{entryOf, lastRow, rowsFrom, sums, triangle}
 use Rattle.refusal.proofs.Conditions.{at-most-tells, chain-first, passed, test}
 use Rattle.words.proofs.HighestSymbol.{up-to→}
@@ -14,6 +16,14 @@ use Rattle.words.specs.Symbols.{allUpTo}
 pub entries : Entries
 unfolding triangle rowsFrom sums
 entries = refl
+
+pub table-rule : TableRule
+unfolding choose
+table-rule m n d h = (
+  entry-chosen m n 0 h (omega arith),
+  entry-chosen m n n h (omega arith) ∙ choose-all n,
+  λ k l. omega (arith, entry-chosen m (suc n) (suc d) k (omega arith), entry-chosen m n d h (omega arith), entry-chosen m n (suc d) h (omega arith)),
+)
 
 pub entry-is : EntryChosen
 entry-is = entry-chosen

@@ -1,6 +1,6 @@
 -- What is claimed of the table and of its look-up.
 use mathlib.Core.Path.{_≡_}
-use Prim.Native.Nat.{suc, ℕ, _<_, _^_, _≤_}
+use Prim.Native.Nat.{suc, ℕ, _+_, _<_, _^_, _≤_}
 use lib.ListN.{length}
 use Rattle.density.specs.Choose.{choose}
 use Rattle.pascal.specs.Answers.{waysVerdict}
@@ -12,7 +12,13 @@ use Rattle.refusal.specs.declared.Refusal.the-variants.{Holes, Stations}
 abbrev pub Entries : Type 0
 Entries = length (triangle (suc lastRow)) ≡ 2145
 
--- the entry for (n, d) is the ways to choose d of n, in a table of any number of rows
+-- "Its rule (ends are 1, inner entries the sum of the two above) is shown over the whole table", of any number of rows.
+abbrev pub TableRule : Type 0
+TableRule =
+    (m n d : ℕ) → n < m → let entry = entryOf (triangle m) in
+    (entry n 0 ≡ 1) × (entry n n ≡ 1) × (suc n < m → d < n → entry (suc n) (suc d) ≡ entry n d + entry n (suc d))
+
+-- So the entry for (n, d) is the ways to choose d of n.
 abbrev pub EntryChosen : Type 0
 EntryChosen = (m n d : ℕ) → n < m → d ≤ n → entryOf (triangle m) n d ≡ choose n d
 
