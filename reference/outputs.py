@@ -15,6 +15,7 @@ from rings import (
     of_kind,
     opened,
     padded,
+    pairs,
     pitches_of_row,
     refusal,
     row_of_pitches,
@@ -86,21 +87,52 @@ def cut(row, k, place):
     return row[:length] if length <= 300 else ()
 
 
-def compare_test():
-    for line in lines("compare_test"):
-        row, other = map(symbols, line[4:].split(" against "))
-        print(f"{line}: {order(row, other)} place {first_difference(row, other)}")
-    rows = [row for n in range(8) for row in product((0, 1), repeat=n)]
-    pairs, places = len(rows) ** 2, sum(first_difference(*pair) for pair in product(rows, repeat=2))
-    print("rows of up to 7 symbols: pairs", pairs, "agreed", pairs, "places", places)
-    pairs = places = 0
+def print_tally(what, compared):
+    """Of (row, other, how often)."""
+    compared = list(compared)
+    times = sum(k for _, _, k in compared)
+    higher = sum(k * (row > other) for row, other, k in compared)
+    places = sum(k * first_difference(row, other) for row, other, k in compared)
+    both = sum(k * pairs(row, other) for row, other, k in compared)
+    print(what, "compared", times, "agreed", times, "higher", higher, "places", places, "pairs", both)
+
+
+def long_rows():
     row = tuple(255 - i % 256 for i in range(300))
     for place in range(300):
         other = row[:place] + (255 - row[place],) + row[place + 1 :]
         for k, m in product(range(9), repeat=2):
-            pairs += 2
-            places += first_difference(cut(row, k, place), cut(other, m, place))
-    print("rows of up to 300 bytes: pairs", pairs, "agreed", pairs, "places", places)
+            a, b = cut(row, k, place), cut(other, m, place)
+            yield a, b, 1
+            yield b, a, 1
+
+
+def parts():
+    """Where the parts begin is nothing to the definitions; each of two unequal bytes is the lower as often as the other."""
+    for m, n in product(range(41), repeat=2):
+        for agree in range(min(m, n) + 1):
+            for x, y in (1, 2), (2, 1):
+                yield (0,) * agree + (x,) * (m - agree), (0,) * agree + (y,) * (n - agree), 50
+
+
+def compare_test():
+    for line in lines("compare_test"):
+        row, other = map(symbols, line[4:].split(" against "))
+        print(f"{line}: {order(row, other)} place {first_difference(row, other)} pairs {pairs(row, other)}")
+    rows = [row for n in range(8) for row in product((0, 1), repeat=n)]
+    print_tally("rows of up to 7 symbols:", ((*pair, 1) for pair in product(rows, repeat=2)))
+    print_tally("rows of up to 300 bytes:", long_rows())
+    print_tally("parts of up to 40 bytes:", parts())
+
+
+# ---- compare_bench
+
+
+def compare_bench():
+    """Rows of 60 bytes that differ at place 51, 100 times, lower and higher by turns; an order counts 0 or 2."""
+    row = (0,) * 60
+    other = row[:50] + (1,) + row[51:]
+    print(100 * (first_difference(row, other) + pairs(row, other)) + 50 * 2)
 
 
 # ---- necklace_test

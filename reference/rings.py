@@ -20,6 +20,20 @@ def first_difference(row, other):
     return next((p for p, (x, y) in enumerate(zip_longest(row, other), 1) if x != y), 0)
 
 
+def up_to_unequal(pieces, others):
+    """How many pairs there are up to the first unequal one; with none, all."""
+    return next((k for k, (x, y) in enumerate(zip(pieces, others), 1) if x != y), len(pieces))
+
+
+def pairs(row, other):
+    """How many pairs are compared: words of eight, then the remaining bytes singly."""
+    n = min(len(row), len(other))
+    words, others = ([r[i : i + 8] for i in range(0, n - n % 8, 8)] for r in (row, other))
+    if words != others:
+        return up_to_unequal(words, others)
+    return len(words) + up_to_unequal(row[n - n % 8 : n], other[n - n % 8 : n])
+
+
 def period(row):
     return next(p for p in range(1, len(row) + 1) if turn(row, p) == row)
 

@@ -34,8 +34,7 @@ fn cut(k: usize, place: usize) -> usize
 // At each place 81 pairs of lengths. A cut behind the end leaves nothing.
 pub fn compare_all() {
     let row = falling();
-    let mut agreed: usize = 0;
-    let mut places: usize = 0;
+    let mut tally = plain::none();
     let mut pair: usize = 0;
     while pair < 24300 {
         let place = pair / 81;
@@ -43,14 +42,10 @@ pub fn compare_all() {
         other[place] = std::num::wrapping_sub_u8(255, row[place]);
         let a = cases::part(&row, 0, cut(pair / 9 % 9, place));
         let b = cases::part(&other, 0, cut(pair % 9, place));
-        let compared = words::compare(a, b);
-        agreed += test_rows::one_if(plain::agrees(a, b, compared));
-        agreed += test_rows::one_if(plain::agrees(b, a, words::compare(b, a)));
-        places = std::num::wrapping_add_usize(places, compared.place);
+        tally = tally.with(a, b);
+        tally = tally.with(b, a);
         pair += 1;
     }
-    test_rows::print_filled(
-        b"rows of up to 300 bytes: pairs # agreed # places #\n",
-        &[48600, agreed, places],
-    );
+    io::write_all(1, b"rows of up to 300 bytes: ");
+    tally.print(48600);
 }

@@ -1,4 +1,4 @@
-// The order of two rows and the place where they first differ, by plain search.
+// The order of two rows, the place where they first differ and the pairs compared, by plain search.
 use words::Compared;
 use words::Order;
 
@@ -43,9 +43,71 @@ fn order_at(a: &[u8], b: &[u8], place: usize) -> u8 {
     }
 }
 
+// How many pairs are compared of rows that first differ at a place: over `shorter` symbols, words of eight and then single ones.
+fn pairs(shorter: usize, place: usize) -> usize {
+    let words = shorter / 8;
+    if place == 0 {
+        return words + shorter % 8;
+    }
+    if shorter < place {
+        return words + shorter % 8;
+    }
+    if place <= words * 8 {
+        return (place - 1) / 8 + 1;
+    }
+    words + (place - words * 8)
+}
+
+fn least(m: usize, n: usize) -> usize {
+    if m < n { m } else { n }
+}
+
 // Whether a comparison of two rows says what plain search says.
-pub fn agrees(a: &[u8], b: &[u8], compared: Compared) -> bool {
+fn agrees(a: &[u8], b: &[u8], compared: Compared) -> bool {
     let order = compared.order;
     let place = first_difference(a, b);
-    compared.place == place && order_number(order) == order_at(a, b, place)
+    let shorter = least(a.len(), b.len());
+    compared.place == place
+        && order_number(order) == order_at(a, b, place)
+        && compared.pairs == pairs(shorter, place)
+}
+
+// Comparisons of two rows: how many agree with plain search, how many say higher, and the sums of their places and pairs.
+pub struct Tally {
+    pub agreed: usize,
+    pub higher: usize,
+    pub places: usize,
+    pub pairs: usize,
+}
+
+pub fn none() -> Tally {
+    Tally {
+        agreed: 0,
+        higher: 0,
+        places: 0,
+        pairs: 0,
+    }
+}
+
+impl Tally {
+    // One more.
+    pub fn with(self, a: &[u8], b: &[u8]) -> Tally {
+        let compared = words::compare(a, b);
+        let order = compared.order;
+        let agreed = test_rows::one_if(agrees(a, b, compared));
+        let higher = test_rows::one_if(order_number(order) == 2);
+        Tally {
+            agreed: std::num::wrapping_add_usize(self.agreed, agreed),
+            higher: std::num::wrapping_add_usize(self.higher, higher),
+            places: std::num::wrapping_add_usize(self.places, compared.place),
+            pairs: std::num::wrapping_add_usize(self.pairs, compared.pairs),
+        }
+    }
+
+    pub fn print(self, compared: usize) {
+        test_rows::print_filled(
+            b"compared # agreed # higher # places # pairs #\n",
+            &[compared, self.agreed, self.higher, self.places, self.pairs],
+        );
+    }
 }

@@ -28,7 +28,7 @@ fn show(line: &[u8]) {
     let order = compared.order;
     io::write_all(1, line);
     print_order(order);
-    test_rows::print_filled(b" place #\n", &[compared.place]);
+    test_rows::print_filled(b" place # pairs #\n", &[compared.place, compared.pairs]);
 }
 
 fn show_lines(text: &[u8]) {
@@ -41,7 +41,7 @@ fn show_lines(text: &[u8]) {
 }
 
 pub fn show_all() {
-    // one row begins the other, then rows that differ, then equal rows
+    // one row begins the other, then rows that differ, then equal rows; last, rows of words that differ in the first, in the second, behind them
     show_lines(
         b"row 01 against 010\n\
           row 010 against 01\n\
@@ -69,6 +69,12 @@ pub fn show_all() {
           row 0 against 0\n\
           row 010 against 010\n\
           row 0000000000000000000000000000000000000000000000000000000000000001 \
-            against 0000000000000000000000000000000000000000000000000000000000000001\n",
+            against 0000000000000000000000000000000000000000000000000000000000000001\n\
+          row 0120120120120120 against 0120120020120120\n\
+          row 0000000100000000 against 0000000011111111\n\
+          row 0123456701234567 against 0123456701234576\n\
+          row 01234567012345670 against 01234567012345671\n\
+          row 01234567012345670120 against 01234567012345670129012345\n\
+          row 0123456701234567012 against 01234567012345670129012345\n",
     );
 }

@@ -5,7 +5,6 @@ ghost use mathlib.Core.List.{_++_};
 ghost use Prim.Native.Nat.{ℕ, _-_, _≤_};
 ghost use lib.Dec.{leb};
 ghost use lib.ListN.{length};
-ghost use Rattle.words.specs.Difference.{firstDifference};
 ghost use Rattle.words.specs.Symbols.{allUpTo, zeros};
 ghost use Rattle.density.specs.Rows.{isPadded};
 ghost use Rattle.refusal.specs.Verdicts.{mostStations};
@@ -63,28 +62,4 @@ pub fn are_padded(row: &[u8], other: &[u8], n: usize) -> bool
     ensures { λ r. ⌜ r ≡ (isPadded n (now (row .entry)) && isPadded n (now (other .entry))) ⌝ }
 {
     highest_of_two(row, other) <= 1 && highest_of_two(&row[n..], &other[n..]) == 0
-}
-
-// The place where two arrays first differ, 0 where they are the same. Without an early exit, the loop runs on vectors: it keeps how many
-// symbols there are from the first difference to the end, the most of all places where they differ.
-pub fn first_difference(row: &[u8], other: &[u8]) -> usize
-    requires { ⌜ (length (now row) ≡ mostStations) × (length (now other) ≡ mostStations) ⌝ }
-    ensures { λ r. ⌜ r ≡ firstDifference (now (row .entry)) (now (other .entry)) ⌝ }
-{
-    let mut rest: u8 = 0;
-    let mut i: usize = 0;
-    while i < refusal::MOST_STATIONS {
-        let mut here: u8 = 0;
-        if row[i] != other[i] {
-            here = (refusal::MOST_STATIONS - i) as u8;
-        }
-        if rest < here {
-            rest = here;
-        }
-        i += 1;
-    }
-    if rest == 0 {
-        return 0;
-    }
-    refusal::MOST_STATIONS + 1 - rest as usize
 }

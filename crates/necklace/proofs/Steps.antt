@@ -1,16 +1,18 @@
--- The steps of the search for the least rotation: by the row's tail, then by its head, place by place.
+-- The steps of the search for the least rotation: rotation by rotation, each part by part.
 use mathlib.Core.List.{List}
-use mathlib.Core.Path.{sym, _∙_, _≡_}
-use Prim.Native.Nat.{Ordering·eq, ℕ, _+_, _-_, _<_, _≤_}
-use native.Mathlib.Numerals.{add-one}
+use mathlib.Core.Logic.{inl, inr, _⊎_}
+use mathlib.Core.Path.{ap, ap₂, refl, sym, _∙_, _≡_}
+use Prim.Native.Nat.{Ordering, Ordering·eq, Ordering·gt, Ordering·lt, ℕ, _+_, _-_, _<_, _≤_}
 use native.Mathlib.Omega.{arith}
-use lib.ListN.{drop, getD, length, length-drop, take}
-use lib.Seq.{take-all}
-use Rattle.necklace.proofs.Parts.{beside-head, beside-tail, head-ended, head-higher, head-lower, head-on, tail-equal, tail-higher, tail-lower}
+use lib.ListN.{drop, length, length-drop, take}
+use lib.Seq.{drop-drop}
+use Rattle.necklace.proofs.Parts.{head-part, tail-part}
 use Rattle.necklace.proofs.Seen.{Seen, seen-all, seen-keep, seen-repeat, seen-start, seen-take}
-use Rattle.words.proofs.Below.{cmp-eq, cmp-gt, cmp-lt, _≺_}
-use Rattle.words.proofs.OrderTests.{order-equal, order-higher, order-lower}
-use Rattle.words.specs.Order.{cmp, orderOf}
+use Rattle.words.proofs.Agreeing.{cmp-parts}
+use Rattle.words.proofs.Below.{cmp-eq, cmp-gt, cmp-lt}
+use Rattle.words.proofs.OrderTests.{cmp-ended, order-equal, order-higher, order-lower}
+use Rattle.words.proofs.Rotations.{rotation-length}
+use Rattle.words.specs.Order.{cmp, headFirst, orderOf}
 use Rattle.words.specs.Rotation.{leastIndex, period, rotation}
 use Rattle.words.specs.declared.Order.{Order}
 use Rattle.words.specs.declared.Order.the-variants.{Equal, Higher, Lower}
@@ -20,62 +22,110 @@ pub record Rotations (w : List ℕ) (b j : ℕ) : Type 0 where
   pub inside : j ≤ length w
   pub seen : Seen w j b
 
--- the tails are equal, and so are the first i symbols of the heads
-pub record Heads (w : List ℕ) (b j i : ℕ) : Type 0 where
+-- the next part: the m symbols of the rotation by r behind i others lie in the row behind `at` symbols
+pub record Lies (w : List ℕ) (r i m at : ℕ) : Type 0 where
+  pub inside : at + m ≤ length w
+  pub is : take m (drop i (rotation r w)) ≡ take m (drop at w)
+
+-- the first i symbols of the rotations by j and by b are equal, and part by part the next are these
+pub record Parts (w : List ℕ) (b j i from beside part : ℕ) : Type 0 where
   pub rotations : Rotations w b j
   pub further : j < length w
-  pub place : i ≤ j
-  pub rest : cmp (drop i (take j w)) (drop i (beside-head w j b)) ≡ cmp (rotation j w) (rotation b w)
+  pub rest : cmp (drop i (rotation j w)) (drop i (rotation b w)) ≡ cmp (rotation j w) (rotation b w)
+  pub room : i + part ≤ length w
+  pub on : i < length w → 0 < part
+  pub past : length w - j ≤ i + part
+  pub one : Lies w j i part from
+  pub other : Lies w b i part beside
 
 pub start : (w : List ℕ) → 0 < length w → Rotations w 0 1
 start w h = record { inside = h; seen = seen-start w }
 
-module _ {w : List ℕ} {b j : ℕ} (s : Rotations w b j) (h : j < length w) where
-  higher : rotation b w ≺ rotation j w → Rotations w b (j + 1)
-  higher q = record { inside = omega arith; seen = seen-keep (s .seen) q }
+-- the tail
+pub tails : {w : List ℕ} {b j : ℕ} → Rotations w b j → j < length w → Parts w b j 0 j b (length w - j)
+tails {w} {b} {j} s h = record {
+  rotations = s;
+  further = h;
+  rest = refl;
+  room = omega arith;
+  on = λ l. omega arith;
+  past = omega arith;
+  one = lies j (omega arith);
+  other = lies b (omega (arith, s .seen .least .inside));
+}
+  where
+    lies : (r : ℕ) → r ≤ j → Lies w r 0 (length w - j) r
+    lies r l =
+        let e : r + 0 ≡ r = omega arith in
+        record { inside = omega arith; is = tail-part w r 0 (length w - j) (omega arith) ∙ ap (λ k. take (length w - j) (drop k w)) e }
 
-  lower : rotation j w ≺ rotation b w → Rotations w j (j + 1)
-  lower q = record { inside = omega arith; seen = seen-take (s .seen) q }
-
-  -- ---- by the tail: r is what the comparison of `row[j..]` with `row[b..b + (n - j)]` answers
-  module _ (r : Order) (e : r ≡ orderOf (cmp (take (length w - j) (drop j w)) (take (b + (length w - j) - b) (drop b w)))) where
-    answer : r ≡ orderOf (cmp (drop j w) (beside-tail w j b))
-    answer =
-        let whole : take (length w - j) (drop j w) ≡ drop j w = take-all (length w - j) (drop j w) (rw length-drop (omega arith)) in
-        let size : b + (length w - j) - b ≡ length w - j = omega arith in
-        e ∙ rw (whole, size)
-
-    pub by-tail-higher : r ≡ Higher → Rotations w b (j + 1)
-    by-tail-higher q = higher (tail-higher w j b (s .seen .least .inside) (s .inside) (order-higher _ (sym answer ∙ q)))
-
-    pub by-tail-lower : r ≡ Lower → Rotations w j (j + 1)
-    by-tail-lower q = lower (tail-lower w j b (s .seen .least .inside) (s .inside) (order-lower _ (sym answer ∙ q)))
-
-    pub by-tail-equal : r ≡ Equal → Heads w b j 0
-    by-tail-equal q = record { rotations = s; further = h; place = omega arith; rest = tail-equal w j b (s .seen .least .inside) (s .inside) (order-equal _ (sym answer ∙ q)) }
-
--- ---- by the head
-
-module _ {w : List ℕ} {b j i : ℕ} (v : Heads w b j i) where
+module _ {w : List ℕ} {b j i from beside part : ℕ} (v : Parts w b j i from beside part) where
   low : b < j
   low = v .rotations .seen .least .inside
 
-  -- y is the symbol of the rotation by b beside place i of the head
-  module _ (h : i < j) (y : ℕ) (e : y ≡ getD (rotation b w) (length w - j + i) 0) where
-    pub by-head-higher : y < getD w i 0 → Rotations w b (j + 1)
-    by-head-higher l = higher (v .rotations) (v .further) (cmp-gt (rotation j w) (rotation b w) (sym (v .rest) ∙ head-higher w j b low (v .rotations .inside) i h (omega arith)))
+  -- r is what the comparison of `row[from..from + part]` with `row[beside..beside + part]` answers
+  module _ (r : Order) (e : r ≡ orderOf (cmp (take (from + part - from) (drop from w)) (take (beside + part - beside) (drop beside w)))) where
+    answer : orderOf (cmp (take part (drop i (rotation j w))) (take part (drop i (rotation b w)))) ≡ r
+    answer =
+        let one : from + part - from ≡ part = omega arith in
+        let other : beside + part - beside ≡ part = omega arith in
+        ap orderOf (ap₂ cmp (v .one .is) (v .other .is)) ∙ sym (e ∙ rw (one, other))
 
-    pub by-head-lower : getD w i 0 < y → Rotations w j (j + 1)
-    by-head-lower l = lower (v .rotations) (v .further) (cmp-lt (rotation j w) (rotation b w) (sym (v .rest) ∙ head-lower w j b low (v .rotations .inside) i h (omega arith)))
+    long : (x : ℕ) → part ≤ length (drop i (rotation x w))
+    long x = omega (arith, v .room, length-drop i (rotation x w), rotation-length x w)
 
-    pub by-head-on : getD w i 0 ≡ y → Heads w b j (i + 1)
-    by-head-on q = record { rotations = v .rotations; further = v .further; place = omega arith; rest = rw add-one (head-on w j b low (v .rotations .inside) i h (omega arith) ∙ v .rest) }
+    parts : cmp (rotation j w) (rotation b w)
+        ≡ headFirst (cmp (take part (drop i (rotation j w))) (take part (drop i (rotation b w)))) (cmp (drop part (drop i (rotation j w))) (drop part (drop i (rotation b w))))
+    parts = sym (v .rest) ∙ cmp-parts part (drop i (rotation j w)) (drop i (rotation b w)) (long j) (long b)
+
+    decided : (o : Ordering) → cmp (take part (drop i (rotation j w))) (take part (drop i (rotation b w))) ≡ o
+        → cmp (rotation j w) (rotation b w) ≡ headFirst o (cmp (drop (i + part) (rotation j w)) (drop (i + part) (rotation b w)))
+    decided o q = parts ∙ ap₂ headFirst q (ap₂ cmp (drop-drop part i (rotation j w)) (drop-drop part i (rotation b w)))
+
+    pub by-higher : r ≡ Higher → Rotations w b (j + 1)
+    by-higher q =
+        let h = cmp-gt (rotation j w) (rotation b w) (decided Ordering·gt (order-higher _ (answer ∙ q))) in
+        record { inside = omega (arith, v .further); seen = seen-keep (v .rotations .seen) h }
+
+    pub by-lower : r ≡ Lower → Rotations w j (j + 1)
+    by-lower q =
+        let h = cmp-lt (rotation j w) (rotation b w) (decided Ordering·lt (order-lower _ (answer ∙ q))) in
+        record { inside = omega (arith, v .further); seen = seen-take (v .rotations .seen) h }
+
+    -- the head, beside the rotation by b before the row ends, or after it
+    module _ (q : r ≡ Equal) (beside′ part′ : ℕ) where
+      abbrev at : ℕ
+      at = i + part
+
+      more : Lies w b at part′ beside′ → (at + part′ ≤ length w) × (at - (length w - j) + part′ ≤ j) → (at < length w → 0 < part′) → Parts w b j at (at - (length w - j)) beside′ part′
+      more l h p = record {
+        rotations = v .rotations;
+        further = v .further;
+        rest = sym (decided Ordering·eq (order-equal _ (answer ∙ q)));
+        room = h .0;
+        on = p;
+        past = omega (arith, v .past);
+        one = record { inside = omega (arith, h .1, v .further); is = head-part w j at part′ (v .rotations .inside) (v .past) (h .1) };
+        other = l;
+      }
+
+      pub by-equal : ((at < length w - b) × (beside′ ≡ b + at)) ⊎ ((length w - b ≤ at) × (beside′ ≡ at - (length w - b)))
+          → ((at < length w - b) × (part′ ≡ length w - b - at)) ⊎ ((length w - b ≤ at) × (part′ ≡ length w - at)) → Parts w b j at (at - (length w - j)) beside′ part′
+      by-equal (inl x) (inl y) =
+          more (record { inside = omega (arith, x, y); is = tail-part w b at part′ (omega (arith, x, y)) ∙ ap (λ k. take part′ (drop k w)) (sym (x .1)) })
+          (omega (arith, x, y), omega (arith, x, y, v .past, low)) (λ h. omega (arith, y))
+      by-equal (inr x) (inr y) =
+          let inside : b ≤ length w = omega (arith, v .rotations .inside, low) in
+          more (record { inside = omega (arith, x, y, v .room, inside); is = head-part w b at part′ inside (x .0) (omega (arith, y, v .room)) ∙ ap (λ k. take part′ (drop k w)) (sym (x .1)) })
+          (omega (arith, y, v .room), omega (arith, y, v .room, v .past, v .further)) (λ h. omega (arith, y))
+      by-equal (inl x) (inr y) = absurd (omega (arith, x .0, y .0))
+      by-equal (inr x) (inl y) = absurd (omega (arith, x .0, y .0))
 
   -- equal throughout: the least rotation comes again
-  pub by-head-equal : j ≤ i → (leastIndex w ≡ b) × (period w ≡ j - b)
-  by-head-equal h =
-      let z : i ≡ j = omega (arith, v .place) in
-      let same : cmp (rotation j w) (rotation b w) ≡ Ordering·eq = sym (v .rest) ∙ rw z (head-ended w j b low (v .rotations .inside)) in
+  pub by-all : length w ≤ i → (leastIndex w ≡ b) × (period w ≡ j - b)
+  by-all h =
+      let same : cmp (rotation j w) (rotation b w) ≡ Ordering·eq =
+      sym (v .rest) ∙ cmp-ended (rotation j w) (rotation b w) i i (omega (arith, rotation-length j w)) (omega (arith, rotation-length b w)) in
       seen-repeat w j b (v .rotations .seen) (v .further) (cmp-eq (rotation j w) (rotation b w) same)
 
 -- no rotation is left

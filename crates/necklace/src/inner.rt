@@ -29,30 +29,29 @@ pub fn least_rotation(row: &[u8]) -> Least
     let n = row.len();
     let mut b: usize = 0;
     'rotations: for j in 1..n {
-        // the tail of the row, from place j on
-        let compared = words::compare(&row[j..], &row[b..b + (n - j)]);
-        let order = compared.order;
-        match order {
-            Order::Higher => {
-                continue 'rotations;
+        // the tail of the row, from place j on, and what the rotation by b has beside it
+        let mut i: usize = 0;
+        let mut from = j;
+        let mut beside = b;
+        let mut part = n - j;
+        while i < n {
+            let compared = words::compare(&row[from..from + part], &row[beside..beside + part]);
+            let order = compared.order;
+            match order {
+                Order::Higher => {
+                    continue 'rotations;
+                }
+                Order::Lower => {
+                    b = j;
+                    continue 'rotations;
+                }
+                Order::Equal => {}
             }
-            Order::Lower => {
-                b = j;
-                continue 'rotations;
-            }
-            Order::Equal => {}
-        }
-        // its head
-        for i in 0..j {
-            let x = row[i];
-            let y = symbol(row, b, n - j + i);
-            if y < x {
-                continue 'rotations;
-            }
-            if x < y {
-                b = j;
-                continue 'rotations;
-            }
+            // its head, as far as the rotation by b goes on in the row without a break
+            i += part;
+            from = i - (n - j);
+            beside = if i < n - b { b + i } else { i - (n - b) };
+            part = if i < n - b { n - b - i } else { n - i };
         }
         // the least rotation again: from here on all of them are rotations seen before
         return Least {

@@ -1,13 +1,15 @@
--- The starred specimens of document 01, with the places of M-100 and the pitches of M-110, and what each says of the definitions.
+-- The starred specimens of document 01, with the places of M-100, the pitches of M-110 and the pairs of M-130, and what each says of the definitions.
 use mathlib.Core.Path.{_≡_}
 use mathlib.Core.Bool.{Bool, true, false}
-use mathlib.Core.List.{List, [], _∷_}
+use mathlib.Core.List.{List, [], _∷_, _++_}
 use Prim.Native.Nat.{ℕ}
 use Rattle.words.specs.Difference.{firstDifference}
 use Rattle.words.specs.Order.{cmp, orderOf}
+use Rattle.words.specs.Pairs.{pairs}
 use Rattle.words.specs.Rotation.{leastRotation, leastIndex, period}
+use Rattle.words.specs.Symbols.{ones, zeros}
 use Rattle.words.specs.declared.Order.{Order}
-use Rattle.words.specs.declared.Order.the-variants.{Lower}
+use Rattle.words.specs.declared.Order.the-variants.{Higher, Lower}
 use Rattle.density.specs.Necklaces.{begins, largestNecklace}
 use Rattle.listing.specs.Listing.{Line, ring, none, says, told}
 use Rattle.listing.specs.Places.{placed}
@@ -25,8 +27,8 @@ pub data Specimen : Type 0 where
   top : ℕ → ℕ → List ℕ → Specimen
   -- pitches of a row
   pitches : List ℕ → List ℕ → Specimen
-  -- two rows: their order, and the place where they first differ
-  compared : List ℕ → List ℕ → Order → ℕ → Specimen
+  -- two rows: their order, the place where they first differ, and the pairs compared
+  compared : List ℕ → List ℕ → Order → ℕ → ℕ → Specimen
   -- drawer (n, d), kind, limit: the first answer of the walk that opening hands out, its place and its trials
   step : ℕ → ℕ → ℕ → List ℕ → Line → ℕ → ℕ → Specimen
 
@@ -36,7 +38,7 @@ Says (key w least turn p) = (leastRotation w ≡ least) × (leastIndex w ≡ tur
 Says (prefix n d p answer) = begins n d p ≡ answer
 Says (top n d w) = largestNecklace n d ≡ w
 Says (pitches w list) = pitchesOfRow w ≡ list
-Says (compared a b order place) = (orderOf (cmp a b) ≡ order) × (firstDifference a b ≡ place)
+Says (compared a b order place number) = (orderOf (cmp a b) ≡ order) × (firstDifference a b ≡ place) × (pairs a b ≡ number)
 Says (step n d kind limit line place trials) =
     walkPlaced rules (openWalk (openVerdict n d kind limit) rules n d kind limit) (100 ∷ []) ≡ placed (told (says line) trials) place ∷ []
 
@@ -54,7 +56,9 @@ starred =
     ∷ prefix 4 3 (0 ∷ []) true
     ∷ top 8 3 (0 ∷ 0 ∷ 1 ∷ 0 ∷ 0 ∷ 1 ∷ 0 ∷ 1 ∷ [])
     ∷ top 8 5 (0 ∷ 1 ∷ 0 ∷ 1 ∷ 1 ∷ 0 ∷ 1 ∷ 1 ∷ [])
-    ∷ compared (0 ∷ 1 ∷ []) (0 ∷ 1 ∷ 0 ∷ []) Lower 3
+    ∷ compared (0 ∷ 1 ∷ []) (0 ∷ 1 ∷ 0 ∷ []) Lower 3 2
+    ∷ compared (zeros 19) (zeros 9 ++ ones 10) Lower 10 2
+    ∷ compared (zeros 19) (zeros 18) Higher 19 4
     ∷ step 8 3 1 (0 ∷ 0 ∷ 0 ∷ 1 ∷ 1 ∷ 0 ∷ 0 ∷ 0 ∷ []) (ring (0 ∷ 0 ∷ 0 ∷ 1 ∷ 0 ∷ 1 ∷ 0 ∷ 1 ∷ [])) 5 4
     ∷ step 8 3 1 (0 ∷ 0 ∷ 1 ∷ 0 ∷ 0 ∷ 1 ∷ 0 ∷ 0 ∷ []) (ring (0 ∷ 0 ∷ 0 ∷ 1 ∷ 1 ∷ 0 ∷ 0 ∷ 1 ∷ [])) 3 7
     ∷ step 8 3 1 (0 ∷ 0 ∷ 0 ∷ 0 ∷ 0 ∷ 1 ∷ 1 ∷ 0 ∷ []) none 0 2

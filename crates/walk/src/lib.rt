@@ -227,7 +227,7 @@ impl Walk {
             match said {
                 // measured from the row kept, which it replaces
                 Said::Ring => {
-                    let place = density::rows::first_difference(&kept, &row);
+                    let compared = words::compare(&kept, &row);
                     return Stepped {
                         walk: Walk {
                             row,
@@ -236,7 +236,7 @@ impl Walk {
                             ..self
                         },
                         answer: Answer::Ring,
-                        place,
+                        place: compared.place,
                         trials,
                     };
                 }

@@ -1,43 +1,18 @@
--- The place where two rows first differ: what is left of them from a place on, and what the place means.
+-- The place where two rows first differ, and what it means.
 use mathlib.Core.Bool.{Bool, cond, false, true}
 use mathlib.Core.List.{List, [], _∷_}
 use mathlib.Core.Logic.{inl, inr, _⊎_}
 use mathlib.Core.Path.{ap, refl, sym, _∙_, _≡_}
-use Prim.Native.Nat.{suc, zero, ℕ, _+_, _<_, _≤_}
+use Prim.Native.Nat.{suc, zero, ℕ}
 use native.Mathlib.Omega.{arith}
 use lib.Dec.{eqb}
-use lib.ListN.{drop, drop-of-length-le, getD, length, take}
-use lib.Seq.{drop-cons}
+use lib.ListN.{drop, take}
 use borrow.Author.Tests.{eq-eqb, eqb-false, eqb-true, ne-eqb}
-use Rattle.words.proofs.FirstPlaces.{from-later, fromPlace, none-later}
+use Rattle.words.proofs.FirstPlaces.{none-later}
 use Rattle.words.proofs.Lists.{cons-head, cons-tail}
 use Rattle.words.specs.Claims.{Apart, DifferenceBothWays, DifferencePlace, FirstApart, NoDifference, OnePlace}
 use Rattle.words.specs.Difference.{firstDifference}
 use Rattle.words.specs.Symbols.{later}
-
--- ---- for loops: what is left of two rows from place i on
-
-module _ (a b : List ℕ) (i : ℕ) where
-  pub differ-here : i < length a → i < length b → (getD a i 0 ≡ getD b i 0 → ⊥) → fromPlace i (firstDifference (drop i a) (drop i b)) ≡ i + 1
-  unfolding firstDifference
-  differ-here h l n = rw (drop-cons a i 0 h, drop-cons b i 0 l, ne-eqb _ _ n) (omega arith)
-
-  pub differ-on : i < length a → i < length b → getD a i 0 ≡ getD b i 0
-      → fromPlace (suc i) (firstDifference (drop (suc i) a) (drop (suc i) b)) ≡ fromPlace i (firstDifference (drop i a) (drop i b))
-  unfolding firstDifference
-  differ-on h l e = rw (drop-cons a i 0 h, drop-cons b i 0 l, eq-eqb _ _ e) (sym (from-later i (firstDifference (drop (suc i) a) (drop (suc i) b))))
-
-  pub differ-short : length a ≤ i → i < length b → fromPlace i (firstDifference (drop i a) (drop i b)) ≡ i + 1
-  unfolding firstDifference
-  differ-short h l = rw (drop-of-length-le a h, drop-cons b i 0 l) (omega arith)
-
-  pub differ-long : i < length a → length b ≤ i → fromPlace i (firstDifference (drop i a) (drop i b)) ≡ i + 1
-  unfolding firstDifference
-  differ-long h l = rw (drop-cons a i 0 h, drop-of-length-le b l) (omega arith)
-
-  pub differ-ended : length a ≤ i → length b ≤ i → fromPlace i (firstDifference (drop i a) (drop i b)) ≡ 0
-  unfolding firstDifference
-  differ-ended h l = rw (drop-of-length-le a h, drop-of-length-le b l)
 
 -- ---- what the place means
 

@@ -36,7 +36,12 @@ pub mod Zeros
 pub mod FirstPlaces
 pub mod Wrong
 pub mod Difference
-pub mod FarthestDifference
+pub mod Agreeing
+pub mod PairsCompared
+-- bytes as one number
+pub mod NumberBytes
+-- the comparison
+pub mod Comparing
 pub mod Front
 -- the pass over a row and one symbol more
 pub mod ScanMore

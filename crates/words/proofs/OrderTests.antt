@@ -2,12 +2,12 @@
 use mathlib.Core.Bool.{false, false≢true, true}
 use mathlib.Core.List.{List}
 use mathlib.Core.Path.{refl, sym, _≡_}
-use Prim.Native.Nat.{Ordering, Ordering·eq, Ordering·gt, Ordering·lt, suc, ℕ, _<_, _≤_}
+use Prim.Native.Nat.{Ordering, Ordering·eq, Ordering·gt, Ordering·lt, ℕ, _<_, _≤_}
 use lib.Dec.{isEq, isLe}
 use lib.ListN.{drop, drop-of-length-le, getD, length}
 use lib.Seq.{drop-cons}
 use Rattle.words.proofs.AtMost.{equal, lower, _≼_}
-use Rattle.words.proofs.Below.{Means, cmp-is, cmp-means, compare-self, here, is-eq, is-gt, is-lt, short, _≺_}
+use Rattle.words.proofs.Below.{Means, cmp-is, cmp-means, here, is-eq, is-gt, is-lt, short, _≺_}
 use Rattle.words.specs.Order.{cmp, isLt, le, lt, orderOf, same}
 use Rattle.words.specs.declared.Order.the-variants.{Equal, Higher, Lower}
 
@@ -89,10 +89,6 @@ module _ (a b : List ℕ) (i k : ℕ) (ha : i < length a) (hb : k < length b) wh
 
   pub cmp-higher : getD b k 0 < getD a i 0 → cmp (drop i a) (drop k b) ≡ Ordering·gt
   cmp-higher h = rw (drop-cons a i 0 ha, drop-cons b k 0 hb) (cmp-is (is-gt (here h)))
-
-  pub cmp-on : getD a i 0 ≡ getD b k 0 → cmp (drop (suc i) a) (drop (suc k) b) ≡ cmp (drop i a) (drop k b)
-  unfolding cmp
-  cmp-on e = rw (drop-cons a i 0 ha, drop-cons b k 0 hb, e, compare-self (getD b k 0))
 
 -- a row has ended
 pub cmp-short : (a b : List ℕ) (i k : ℕ) → length a ≤ i → k < length b → cmp (drop i a) (drop k b) ≡ Ordering·lt

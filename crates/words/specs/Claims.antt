@@ -3,10 +3,11 @@ use mathlib.Core.Bool.{true}
 use mathlib.Core.List.{List}
 use mathlib.Core.Logic.{_↔_, _⊎_}
 use mathlib.Core.Path.{_≡_}
-use Prim.Native.Nat.{ℕ, suc, _≤_, _<_}
+use Prim.Native.Nat.{ℕ, suc, _+_, _*_, _/_, _%_, _≤_, _<_}
 use lib.ListN.{length, getD, take}
 use Rattle.words.specs.Difference.{firstDifference}
 use Rattle.words.specs.Order.{le, lt}
+use Rattle.words.specs.Pairs.{pairs, shorterLength}
 use Rattle.words.specs.Rotation.{IsRotation, isLyndon, isNecklace, leastIndex, leastRotation, period, rotation}
 use Rattle.words.specs.Symbols.{Within, firstWrong}
 
@@ -92,3 +93,19 @@ DifferencePlace = (a b : List ℕ) → (a ≡ b → ⊥) → FirstApart a b (fir
 -- and there is no other such place
 abbrev pub OnePlace : Type 0
 OnePlace = (a b : List ℕ) (p : ℕ) → FirstApart a b p → firstDifference a b ≡ p
+
+-- ---- the pairs compared, by the place where the rows first differ, behind i symbols
+
+-- in a word: "the words up to the first unequal pair"
+abbrev pub WordPairs : Type 0
+WordPairs = (a b : List ℕ) (i : ℕ) → firstDifference a b ≡ suc i → i < shorterLength a b / 8 * 8 → pairs a b ≡ suc (i / 8)
+
+-- behind the words: "or, with none, all of them and the remaining bytes up to the first unequal pair"
+abbrev pub BytePairs : Type 0
+BytePairs =
+    (a b : List ℕ) (i : ℕ) → firstDifference a b ≡ suc i → shorterLength a b / 8 * 8 ≤ i → i < shorterLength a b
+    → pairs a b ≡ shorterLength a b / 8 + suc (i % 8)
+
+-- nowhere over the shorter length: all words and all remaining bytes
+abbrev pub AllPairs : Type 0
+AllPairs = (a b : List ℕ) → take (shorterLength a b) a ≡ take (shorterLength a b) b → pairs a b ≡ shorterLength a b / 8 + shorterLength a b % 8

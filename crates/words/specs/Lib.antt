@@ -5,6 +5,8 @@ pub mod Falling
 pub mod Rotation
 pub mod Symbols
 pub mod Difference
+pub mod Pairs
 pub mod Buffers
 pub mod InnerScan
+pub mod InnerNumber
 pub mod Claims

@@ -1,14 +1,14 @@
 -- `compare_test::short_rows::compare_all` is safe and ends.
-use Prim.Native.Nat.{_≤_, _-_}
+use Prim.Native.Nat.{_-_, _≤_}
 use borrow.Author.Needs.{needs}
 use Rattle.compare_test.proofs.short_rows.compare_all.Statement.{statement}
 use Rattle.compare_test.proofs.short_rows.compare_all.Tie as tie
 
 abbrev Inv-loop : tie.InvT-loop
-Inv-loop agreed₀ places₀ pair₀ t13 agreed places pair = (pair ≤ 65025) × (agreed ≤ pair)
+Inv-loop tally₀ pair₀ t9 tally pair = pair ≤ 65025
 
 abbrev μ-loop : tie.MeasureT-loop
-μ-loop agreed₀ places₀ pair₀ t13 agreed places pair = 65025 - pair
+μ-loop tally₀ pair₀ t9 tally pair = 65025 - pair
 
 pub compare-all-spec : {M : Type 1} → statement M
 compare-all-spec =
@@ -16,6 +16,7 @@ compare-all-spec =
     (tie.spec
     Inv-loop
     μ-loop
+    (λ c κs. search needs)
     (λ c. search needs)
     (λ c. search needs)
     (λ c. search needs)
@@ -28,14 +29,10 @@ compare-all-spec =
     (λ c. search needs)
     (λ c κs. search needs)
     (λ c κs. search needs)
+    (λ c. search needs)
+    (λ c. search needs)
+    (λ c. search needs)
+    (λ c. search needs)
     (λ c κs. search needs)
-    (λ c κs. search needs)
-    (λ c. search needs)
-    (λ c κs. search needs)
-    (λ c. search needs)
-    (λ c. search needs)
-    (λ c. search needs)
-    (λ c. search needs)
-    (λ c. search needs)
     (λ c κs. search needs)
     (λ c. search needs))

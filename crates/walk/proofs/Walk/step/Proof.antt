@@ -219,19 +219,16 @@ module _ (c : tie.After-enum-told Inv-loop μ-loop) where
       padded-difference (ended told .n) (ended told .kept) (ended told .row) (kept-long told ∙ sym (ring-row .1))
       (and→ (isPadded (first e .n) (first e .row)) (isPadded (first e .n) (first e .kept)) (rows e) .1) (ring-row .0)
 
-slice-aggregate-first-difference : tie.Need-slice-aggregate-first-difference Inv-loop μ-loop
-slice-aggregate-first-difference c = sym (kept-long (told (c .before)))
+slice-aggregate-compare : tie.Need-slice-aggregate-compare Inv-loop μ-loop
+slice-aggregate-compare c = sym (kept-long (told (c .before)))
 
-slice-aggregate-first-difference-2 : tie.Need-slice-aggregate-first-difference-2 Inv-loop μ-loop
-slice-aggregate-first-difference-2 c = sym (ring-row (c .before .before) .1)
-
-first-difference-requires : tie.Need-first-difference-requires Inv-loop μ-loop
-first-difference-requires c κs = let e = c .before .before in (kept-long (told e), ring-row e .1)
+slice-aggregate-compare-2 : tie.Need-slice-aggregate-compare-2 Inv-loop μ-loop
+slice-aggregate-compare-2 c = sym (ring-row (c .before .before) .1)
 
 returns-4 : tie.Need-returns-4 Inv-loop μ-loop
 returns-4 c =
     let e = c .before .before .before in
-    due _ _ _ (returned (ended (told e)) Ring _ _ _ refl (c .first-difference .ensures ∙ measured e) ∙ says-ring e)
+    due _ _ _ (returned (ended (told e)) Ring _ _ _ refl (c .compare .ensures .1 .0 ∙ measured e) ∙ says-ring e)
 
 -- none
 returns-5 : tie.Need-returns-5 Inv-loop μ-loop
@@ -320,9 +317,9 @@ step-spec =
     go-on-requires
     sub-trials
     (λ c. search needs)
-    slice-aggregate-first-difference
-    slice-aggregate-first-difference-2
-    first-difference-requires
+    slice-aggregate-compare
+    slice-aggregate-compare-2
+    (λ c κs. search needs)
     returns-4
     (λ c. search needs)
     returns-5
