@@ -165,7 +165,7 @@ def necklace_test():
         else:
             show_class(word[4])
     rows = len(rows_to_10())
-    for name in ("key", "class"):
+    for name in ("key", "class", "key of longer rows", "class of longer rows"):
         print(name, "compared", rows, "agreed", rows)
 
 

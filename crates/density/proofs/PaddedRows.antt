@@ -1,20 +1,18 @@
 -- A row in an array, and zeros behind it: tested by its highest symbols.
 use mathlib.Core.Bool.{Bool, false, true, _&&_}
-use mathlib.Core.List.{List, [], _∷_}
+use mathlib.Core.List.{List}
 use mathlib.Core.Path.{refl, subst, sym, _∙_, _≡_}
 use Prim.Native.Nat.{suc, zero, ℕ, _+_, _-_, _<_, _≤_}
 use native.Mathlib.Omega.{arith}
 use lib.Dec.{eqb, leb}
-use lib.ListN.{drop, length, length-drop, take, take-append-drop}
+use lib.ListN.{drop, take, take-append-drop}
 use lib.Seq.{getD-drop}
 use borrow.Author.Tests.{le-leb, leb-true, lt-leb, ne-eqb}
 use Rattle.density.proofs.Binary.{Binary, binary-append, binary-test, binary-within, test-binary, within-binary}
 use Rattle.density.specs.Rows.{PaddedRow, isPadded}
 use Rattle.words.proofs.Alphabet.{within-replicate, within-take}
 use Rattle.words.proofs.Booleans.{and→, →and}
-use Rattle.words.proofs.Difference.{take-difference}
 use Rattle.words.proofs.HighestSymbol.{up-to→, zeros-clean, →up-to}
-use Rattle.words.specs.Difference.{firstDifference}
 use Rattle.words.specs.Symbols.{Within, allUpTo, zeros}
 
 -- 0 is the only number up to 0
@@ -77,24 +75,6 @@ module _ (n : ℕ) (row other : List ℕ) (r : ℕ) (h : (b : ℕ) → (allUpTo 
   two-low l s k =
       let a = and→ (allUpTo 1 row) (allUpTo 1 other) (h 1 ∙ le-leb r 1 l) in
       zero-test s ∙ sym (rw (ones-padded n row (a .0), ones-padded n other (a .1)) (k 0))
-
--- what lies behind them is the same
-zeros-are : (a b : List ℕ) → length a ≡ length b → allUpTo 0 a ≡ true → allUpTo 0 b ≡ true → a ≡ b
-unfolding allUpTo
-zeros-are [] [] l e f = refl
-zeros-are [] (y ∷ b) l e f = absurd (omega arith)
-zeros-are (x ∷ a) [] l e f = absurd (omega arith)
-zeros-are (x ∷ a) (y ∷ b) l e f =
-    let p = and→ (leb x 0) (allUpTo 0 a) e in
-    let q = and→ (leb y 0) (allUpTo 0 b) f in
-    let same : x ≡ y = omega (arith, leb-true x 0 (p .0), leb-true y 0 (q .0)) in
-    rw (same, zeros-are a b (omega arith) (p .1) (q .1))
-
-pub padded-difference : (n : ℕ) (row other : List ℕ) → length row ≡ length other → isPadded n row ≡ true → isPadded n other ≡ true
-    → firstDifference row other ≡ firstDifference (take n row) (take n other)
-padded-difference n row other l e f =
-    take-difference n row other
-    (zeros-are (drop n row) (drop n other) (simp length-drop (omega arith)) (padded→ n row e .1) (padded→ n other f .1))
 
 -- zeros are a row of zeros
 pub zeros-padded : (n m : ℕ) → isPadded n (zeros m) ≡ true

@@ -22,13 +22,13 @@ pub record Rotations (w : List ℕ) (b j : ℕ) : Type 0 where
   pub inside : j ≤ length w
   pub seen : Seen w j b
 
--- the next part: the m symbols of the rotation by r behind i others lie in the row behind `at` symbols
+-- the m symbols of the rotation by r behind i others lie in the row, without a break, behind `at` symbols
 pub record Lies (w : List ℕ) (r i m at : ℕ) : Type 0 where
   pub inside : at + m ≤ length w
   pub is : take m (drop i (rotation r w)) ≡ take m (drop at w)
 
--- the first i symbols of the rotations by j and by b are equal, and part by part the next are these
-pub record Parts (w : List ℕ) (b j i from beside part : ℕ) : Type 0 where
+-- the first i symbols of the rotations by j and by b are equal, and the next part of each lies in the row behind `from` and `beside` symbols
+pub record NextPart (w : List ℕ) (b j i from beside part : ℕ) : Type 0 where
   pub rotations : Rotations w b j
   pub further : j < length w
   pub rest : cmp (drop i (rotation j w)) (drop i (rotation b w)) ≡ cmp (rotation j w) (rotation b w)
@@ -42,7 +42,7 @@ pub start : (w : List ℕ) → 0 < length w → Rotations w 0 1
 start w h = record { inside = h; seen = seen-start w }
 
 -- the tail
-pub tails : {w : List ℕ} {b j : ℕ} → Rotations w b j → j < length w → Parts w b j 0 j b (length w - j)
+pub tails : {w : List ℕ} {b j : ℕ} → Rotations w b j → j < length w → NextPart w b j 0 j b (length w - j)
 tails {w} {b} {j} s h = record {
   rotations = s;
   further = h;
@@ -59,7 +59,7 @@ tails {w} {b} {j} s h = record {
         let e : r + 0 ≡ r = omega arith in
         record { inside = omega arith; is = tail-part w r 0 (length w - j) (omega arith) ∙ ap (λ k. take (length w - j) (drop k w)) e }
 
-module _ {w : List ℕ} {b j i from beside part : ℕ} (v : Parts w b j i from beside part) where
+module _ {w : List ℕ} {b j i from beside part : ℕ} (v : NextPart w b j i from beside part) where
   low : b < j
   low = v .rotations .seen .least .inside
 
@@ -97,7 +97,7 @@ module _ {w : List ℕ} {b j i from beside part : ℕ} (v : Parts w b j i from b
       abbrev at : ℕ
       at = i + part
 
-      more : Lies w b at part′ beside′ → (at + part′ ≤ length w) × (at - (length w - j) + part′ ≤ j) → (at < length w → 0 < part′) → Parts w b j at (at - (length w - j)) beside′ part′
+      more : Lies w b at part′ beside′ → (at + part′ ≤ length w) × (at - (length w - j) + part′ ≤ j) → (at < length w → 0 < part′) → NextPart w b j at (at - (length w - j)) beside′ part′
       more l h p = record {
         rotations = v .rotations;
         further = v .further;
@@ -110,7 +110,7 @@ module _ {w : List ℕ} {b j i from beside part : ℕ} (v : Parts w b j i from b
       }
 
       pub by-equal : ((at < length w - b) × (beside′ ≡ b + at)) ⊎ ((length w - b ≤ at) × (beside′ ≡ at - (length w - b)))
-          → ((at < length w - b) × (part′ ≡ length w - b - at)) ⊎ ((length w - b ≤ at) × (part′ ≡ length w - at)) → Parts w b j at (at - (length w - j)) beside′ part′
+          → ((at < length w - b) × (part′ ≡ length w - b - at)) ⊎ ((length w - b ≤ at) × (part′ ≡ length w - at)) → NextPart w b j at (at - (length w - j)) beside′ part′
       by-equal (inl x) (inl y) =
           more (record { inside = omega (arith, x, y); is = tail-part w b at part′ (omega (arith, x, y)) ∙ ap (λ k. take part′ (drop k w)) (sym (x .1)) })
           (omega (arith, x, y), omega (arith, x, y, v .past, low)) (λ h. omega (arith, y))

@@ -1,4 +1,4 @@
-// Key and class of all rows of up to 10 stations, against plain search.
+// Key and class of all rows of up to 10 stations, and of longer rows that go on with them, against plain search.
 use necklace::ClassAnswer;
 use necklace::KeyAnswer;
 use test_rows::FRESH;
@@ -63,18 +63,43 @@ fn class_agrees(row: &[u8; refusal::MOST_STATIONS], n: usize) -> bool {
     }
 }
 
-// The rows are numbered: a binary 1 and then the symbols.
+// The row of n symbols that repeats the first p symbols of a row.
+fn repeated(
+    row: &[u8; refusal::MOST_STATIONS],
+    p: usize,
+    n: usize,
+) -> [u8; refusal::MOST_STATIONS] {
+    let mut longer = [0u8; refusal::MOST_STATIONS];
+    let mut i: usize = 0;
+    while i < refusal::MOST_STATIONS {
+        if i < n {
+            longer[i] = test_rows::symbol(row, p, 0, i);
+        }
+        i += 1;
+    }
+    longer
+}
+
+// The rows are numbered: a binary 1 and then the symbols. Each is repeated to a row of 11 to 64 stations.
 pub fn compare_all() {
     let mut keys: usize = 0;
     let mut classes: usize = 0;
+    let mut longer_keys: usize = 0;
+    let mut longer_classes: usize = 0;
     let mut number: usize = 2;
     while number < 2048 {
         let n = test_rows::stations(number);
         let row = test_rows::row_of_number(n, number);
         keys += test_rows::one_if(key_agrees(&row, n));
         classes += test_rows::one_if(class_agrees(&row, n));
+        let m = 11 + number % 54;
+        let longer = repeated(&row, n, m);
+        longer_keys += test_rows::one_if(key_agrees(&longer, m));
+        longer_classes += test_rows::one_if(class_agrees(&longer, m));
         number += 1;
     }
     test_rows::print_counts(b"key", 2046, keys);
     test_rows::print_counts(b"class", 2046, classes);
+    test_rows::print_counts(b"key of longer rows", 2046, longer_keys);
+    test_rows::print_counts(b"class of longer rows", 2046, longer_classes);
 }

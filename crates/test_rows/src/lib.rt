@@ -119,7 +119,7 @@ pub fn row_of_number(n: usize, number: usize) -> [u8; refusal::MOST_STATIONS] {
 }
 
 // Symbol k of turn j.
-fn symbol(row: &[u8; refusal::MOST_STATIONS], n: usize, j: usize, k: usize) -> u8 {
+pub fn symbol(row: &[u8; refusal::MOST_STATIONS], n: usize, j: usize, k: usize) -> u8 {
     if n == 0 {
         return 0;
     }

@@ -8,7 +8,6 @@ use native.Mathlib.Nat.{le-refl}
 use native.Mathlib.Omega.{arith}
 use lib.ListN.{length, take}
 use lib.Seq.{length-take-le, take-take}
-use Rattle.density.specs.Rows.{isPadded}
 use Rattle.prefix.proofs.CarriedLaws.{knows-fewer}
 use Rattle.prefix.specs.InnerCarried.{Knows, KnowsPrefixes}
 use Rattle.prefix.specs.declared.carried.Known.{Known}
@@ -20,7 +19,7 @@ use Rattle.walk.proofs.StepAgrees.{fit-placed, fit-step, step-agrees}
 use Rattle.walk.specs.InnerCourse.{Fitting, Good, Informed, Resumes, before, landed, rest, resumed, saying}
 use Rattle.walk.specs.Fit.{fit}
 use Rattle.walk.specs.Moves.{rowOf, rules}
-use Rattle.walk.specs.Step.{answered, keeps, leaves, stepOf, stepped}
+use Rattle.walk.specs.Step.{keeps, leaves, stepOf, stepped}
 use Rattle.walk.specs.declared.Answer.{Answer}
 use Rattle.walk.specs.declared.Answer.the-variants.{Refused, Ring}
 use Rattle.walk.specs.declared.Reached.{Reached}
@@ -49,11 +48,9 @@ pub returned : (v : Walk) (x : Answer) (kept : List ℕ) (p t : ℕ) → kept �
     → record { walk = record { n = v .n; d = v .d; kind = v .kind; row = v .row; at = v .at; kept = kept }; answer = x; place = p; trials = t } ≡ stepped v x t
 returned v x kept p t e f = rw (e, f)
 
--- a ring that a step gives is a whole row, and zeros behind it
-pub ring-padded : (first : Walk) (allowance : ℕ) → Fit rules first → (v : Walk) (t : ℕ) → stepped v Ring t ≡ stepOf rules first allowance → (isPadded (v .n) (v .row) ≡ true) × (length (v .row) ≡ mostStations)
-ring-padded first allowance f v t e =
-    let g : Fit rules (answered Ring v) = subst (λ r. Fit rules (r .walk)) (sym e) (step-agrees rules first allowance f .fits) in
-    (fit-sound g .keeps, g .long)
+-- a ring that a step gives is in a whole array
+pub ring-whole : (first : Walk) (allowance : ℕ) → Fit rules first → (v : Walk) (t : ℕ) → stepped v Ring t ≡ stepOf rules first allowance → length (v .row) ≡ mostStations
+ring-whole first allowance f v t e = subst (λ r. Fit rules (r .walk)) (sym e) (step-agrees rules first allowance f .fits) .long
 
 -- ---- the loop begins
 

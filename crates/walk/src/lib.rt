@@ -227,7 +227,7 @@ impl Walk {
             match said {
                 // measured from the row kept, which it replaces
                 Said::Ring => {
-                    let compared = words::compare(&kept, &row);
+                    let compared = words::compare(&kept[..n], &row[..n]);
                     return Stepped {
                         walk: Walk {
                             row,

@@ -7,13 +7,13 @@ use native.Mathlib.Omega.{arith}
 use lib.Bits.{bitXor}
 use lib.Count.{leadingZeros}
 use lib.ListN.{getD, length, take}
+use Rattle.bytes.proofs.Numbers.{FirstByte, equal-bytes, first-byte}
+use Rattle.bytes.specs.Number.{highFirst}
 use Rattle.words.proofs.Agreeing.{agree-cmp, agree-ended, agree-more, agree-place}
 use Rattle.words.proofs.Difference.{no-difference}
-use Rattle.words.proofs.NumberBytes.{FirstByte, equal-bytes, first-byte}
 use Rattle.words.proofs.OrderTests.{cmp-ended, cmp-higher, cmp-long, cmp-lower, cmp-short}
 use Rattle.words.proofs.PairsCompared.{all-pairs, byte-pairs, word-pairs}
 use Rattle.words.specs.Difference.{firstDifference}
-use Rattle.words.specs.InnerNumber.{number}
 use Rattle.words.specs.Order.{cmp, orderOf}
 use Rattle.words.specs.Pairs.{pairs, shorterLength}
 use Rattle.words.specs.declared.Order.{Order}
@@ -53,7 +53,7 @@ module _ {a b : List ℕ} {shorter words k : ℕ} (v : Words a b shorter words k
   long = (omega (arith, v .short, v .all), omega (arith, v .short, v .all))
 
   -- the next words, of bytes
-  module _ (ha : (i : ℕ) → getD a i 0 < 256) (hb : (i : ℕ) → getD b i 0 < 256) (x y : ℕ) (ex : x ≡ number 8 (λ j. getD a (k * 8 + j) 0)) (ey : y ≡ number 8 (λ j. getD b (k * 8 + j) 0)) where
+  module _ (ha : (i : ℕ) → getD a i 0 < 256) (hb : (i : ℕ) → getD b i 0 < 256) (x y : ℕ) (ex : x ≡ highFirst 8 (λ j. getD a (k * 8 + j) 0)) (ey : y ≡ highFirst 8 (λ j. getD b (k * 8 + j) 0)) where
     abbrev f : ℕ → ℕ
     f j = getD a (k * 8 + j) 0
 
@@ -69,7 +69,7 @@ module _ {a b : List ℕ} {shorter words k : ℕ} (v : Words a b shorter words k
     pub words-differ : (o : Order) (z : ℕ) → z ≡ leadingZeros 64 (bitXor x y) / 8 → Chosen x y o → Told a b o (k * 8 + z + 1) (k + 1)
     words-differ o z ez ch = go (first-byte f g (λ j. ha (k * 8 + j)) (λ j. hb (k * 8 + j)) 8 (apart ch))
       where
-        apart : Chosen x y o → number 8 f ≡ number 8 g → ⊥
+        apart : Chosen x y o → highFirst 8 f ≡ highFirst 8 g → ⊥
         apart (inl c) e = omega (arith, c .0, ex ∙ e ∙ sym ey)
         apart (inr c) e = omega (arith, c .0, ex ∙ e ∙ sym ey)
 

@@ -6,7 +6,7 @@ use mathlib.Core.Path.{ap, refl, sym, _∙_, _≡_}
 use Prim.Native.Nat.{suc, zero, ℕ}
 use native.Mathlib.Omega.{arith}
 use lib.Dec.{eqb}
-use lib.ListN.{drop, take}
+use lib.ListN.{take}
 use borrow.Author.Tests.{eq-eqb, eqb-false, eqb-true, ne-eqb}
 use Rattle.words.proofs.FirstPlaces.{none-later}
 use Rattle.words.proofs.Lists.{cons-head, cons-tail}
@@ -101,12 +101,3 @@ one-place a b p f = go a b (f .before) (f .agree) (f .apart) ∙ sym (f .place)
         earlier (inl h) = inl (omega (arith, h .0), omega (arith, h .1), h .2)
         earlier (inr (inl h)) = inr (inl (omega (arith, h .0), omega (arith, h .1)))
         earlier (inr (inr h)) = inr (inr (omega (arith, h .0), omega (arith, h .1)))
-
--- what is the same behind place n doesn't show
-pub take-difference : (n : ℕ) (a b : List ℕ) → drop n a ≡ drop n b → firstDifference a b ≡ firstDifference (take n a) (take n b)
-unfolding firstDifference
-take-difference zero a b e = no-difference a b .1 e
-take-difference (suc n) [] [] e = refl
-take-difference (suc n) [] (y ∷ b) e = refl
-take-difference (suc n) (x ∷ a) [] e = refl
-take-difference (suc n) (x ∷ a) (y ∷ b) e = rw (take-difference n a b e)

@@ -38,8 +38,6 @@ pub mod Wrong
 pub mod Difference
 pub mod Agreeing
 pub mod PairsCompared
--- bytes as one number
-pub mod NumberBytes
 -- the comparison
 pub mod Comparing
 pub mod Front

@@ -8,5 +8,4 @@ pub mod Difference
 pub mod Pairs
 pub mod Buffers
 pub mod InnerScan
-pub mod InnerNumber
 pub mod Claims

@@ -1,6 +1,5 @@
 // Rows over any alphabet: the comparison of two rows, and the search for a wrong symbol.
 pub mod inner;
-mod word;
 
 ghost use mathlib.Core.Path.{_≡_};
 ghost use Rattle.words.specs.Difference.{firstDifference};
@@ -30,22 +29,22 @@ pub fn compare(a: &[u8], b: &[u8]) -> Compared
     ensures pairs { λ r. ⌜ r .pairs ≡ pairs (now (a .entry)) (now (b .entry)) ⌝ }
 {
     let shorter = if a.len() < b.len() { a.len() } else { b.len() };
-    let words = shorter / word::BYTES;
+    let words = shorter / bytes::WORD;
     let mut k: usize = 0;
     while k < words {
-        let x = word::word_at(a, k * word::BYTES);
-        let y = word::word_at(b, k * word::BYTES);
+        let x = bytes::word_at(a, k * bytes::WORD);
+        let y = bytes::word_at(b, k * bytes::WORD);
         if x != y {
             let order = if x < y { Order::Lower } else { Order::Higher };
             return Compared {
                 order,
-                place: k * word::BYTES + word::equal_bytes(x, y) + 1,
+                place: k * bytes::WORD + bytes::equal_bytes(x, y) + 1,
                 pairs: k + 1,
             };
         }
         k += 1;
     }
-    let mut i = words * word::BYTES;
+    let mut i = words * bytes::WORD;
     while i < shorter {
         let x = a[i];
         let y = b[i];
@@ -54,12 +53,12 @@ pub fn compare(a: &[u8], b: &[u8]) -> Compared
             return Compared {
                 order,
                 place: i + 1,
-                pairs: words + i % word::BYTES + 1,
+                pairs: words + i % bytes::WORD + 1,
             };
         }
         i += 1;
     }
-    let pairs = words + shorter % word::BYTES;
+    let pairs = words + shorter % bytes::WORD;
     if a.len() == b.len() {
         return Compared {
             order: Order::Equal,

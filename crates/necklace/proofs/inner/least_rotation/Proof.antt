@@ -5,12 +5,12 @@ use Prim.Native.Nat.{_-_}
 use native.Mathlib.Omega.{arith}
 use lib.ListN.{length}
 use borrow.Author.Needs.{needs}
-use Rattle.necklace.proofs.Steps.{Parts, Rotations, by-all, by-equal, by-higher, by-lower, no-more, start, tails}
+use Rattle.necklace.proofs.Steps.{NextPart, Rotations, by-all, by-equal, by-higher, by-lower, no-more, start, tails}
 use Rattle.necklace.proofs.inner.least_rotation.Statement.{statement}
 use Rattle.necklace.proofs.inner.least_rotation.Tie as tie
 
 abbrev Inv-loop : tie.InvT-loop
-Inv-loop row n b₀ j₀ i₀ from₀ beside₀ part₀ b j i from beside part = (n ≡ length row) × (b ≡ b₀) × (j ≡ j₀) × Parts row b j i from beside part
+Inv-loop row n b₀ j₀ i₀ from₀ beside₀ part₀ b j i from beside part = (n ≡ length row) × (b ≡ b₀) × (j ≡ j₀) × NextPart row b j i from beside part
 
 abbrev μ-loop : tie.MeasureT-loop
 μ-loop row n b₀ j₀ i₀ from₀ beside₀ part₀ b j i from beside part = n - i

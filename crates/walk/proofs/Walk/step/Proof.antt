@@ -9,14 +9,12 @@ use lib.Seq.{length-take-le}
 use borrow.Author.Needs.{needs}
 use borrow.Author.Tests.{not-false, not-true}
 use Rattle.walk.proofs.FitCases.{fit-no-rows, fit-no-sizes, fit-so-far, record-fitting, sizes→}
-use Rattle.walk.proofs.StepLoop.{Going, first-informed, first-inside, first-length, first-read, going-first, returned, ring-padded, struck-informed, struck-inside, struck-length, struck-long, struck-symbols, turn-again, turn-fits, turn-says, unfit-step}
-use Rattle.density.proofs.PaddedRows.{padded-difference}
-use Rattle.density.specs.Rows.{isPadded}
+use Rattle.walk.proofs.StepLoop.{Going, first-informed, first-inside, first-length, first-read, going-first, returned, ring-whole, struck-informed, struck-inside, struck-length, struck-long, struck-symbols, turn-again, turn-fits, turn-says, unfit-step}
 use Rattle.prefix.specs.InnerCarried.{Knows, KnowsPrefixes}
 use Rattle.walk.specs.InnerCourse.{Fitting, Informed, Resumes, before, saying, size}
 use Rattle.walk.specs.Fit.{fit, fitRows, fitSizes}
 use Rattle.walk.specs.Moves.{moved, rowOf, rules}
-use Rattle.walk.specs.Step.{leaves, stepDue, stepNumbers, stepOf, stepped}
+use Rattle.walk.specs.Step.{stepDue, stepNumbers, stepOf, stepped}
 use Rattle.walk.specs.declared.Answer.{Answer}
 use Rattle.walk.specs.declared.Answer.the-variants.{None, Refused, Ring}
 use Rattle.walk.specs.declared.Reached.{Reached}
@@ -24,8 +22,6 @@ use Rattle.walk.specs.declared.Said.the-variants.{Nothing}
 use Rattle.walk.specs.declared.Stepped.{Stepped}
 use Rattle.walk.specs.declared.Walk.{Walk}
 use Rattle.refusal.specs.Verdicts.{mostStations}
-use Rattle.words.proofs.Booleans.{and→}
-use Rattle.words.specs.Difference.{firstDifference}
 use Rattle.words.specs.Symbols.{Within, zeros}
 use Rattle.walk.proofs.Walk.step.Statement.{statement}
 use Rattle.walk.proofs.Walk.step.Tie as tie
@@ -210,25 +206,29 @@ module _ (c : tie.After-enum-told Inv-loop μ-loop) where
   says-ring : stepped (ended told) Ring (allowed (turn told .before) - came told .left) ≡ stepOf rules (walk (turn told .before)) (allowed (turn told .before))
   says-ring = says-so told Ring (c .enum-told .given .1)
 
-  ring-row : (isPadded (ended told .n) (ended told .row) ≡ true) × (length (ended told .row) ≡ mostStations)
-  ring-row = let e = turn told .before in ring-padded (walk e) (allowed e) (record { test = fits e; long = whole-row e }) (ended told) _ says-ring
+  -- both rows have n symbols
+  measures : (ended told .n ≤ length (ended told .kept)) × (ended told .n ≤ length (ended told .row))
+  measures =
+      let e = turn told .before in
+      let most = fitting (tried e) .most in
+      (omega (arith, most, kept-long told), omega (arith, most, ring-whole (walk e) (allowed e) (record { test = fits e; long = whole-row e }) (ended told) _ says-ring))
 
-  measured : firstDifference (ended told .kept) (ended told .row) ≡ leaves Ring (ended told)
-  measured =
-      let e = tried (turn told .before) in
-      padded-difference (ended told .n) (ended told .kept) (ended told .row) (kept-long told ∙ sym (ring-row .1))
-      (and→ (isPadded (first e .n) (first e .row)) (isPadded (first e .n) (first e .kept)) (rows e) .1) (ring-row .0)
+array-share-prefix-kept : tie.Need-array-share-prefix-kept Inv-loop μ-loop
+array-share-prefix-kept c = measures c .0
 
 slice-aggregate-compare : tie.Need-slice-aggregate-compare Inv-loop μ-loop
-slice-aggregate-compare c = sym (kept-long (told (c .before)))
+slice-aggregate-compare c = sym (length-take-le _ _ (measures (c .before) .0))
+
+array-share-prefix-row-3 : tie.Need-array-share-prefix-row-3 Inv-loop μ-loop
+array-share-prefix-row-3 c = measures (c .before) .1
 
 slice-aggregate-compare-2 : tie.Need-slice-aggregate-compare-2 Inv-loop μ-loop
-slice-aggregate-compare-2 c = sym (ring-row (c .before .before) .1)
+slice-aggregate-compare-2 c = sym (length-take-le _ _ (measures (c .before .before) .1))
 
 returns-4 : tie.Need-returns-4 Inv-loop μ-loop
 returns-4 c =
     let e = c .before .before .before in
-    due _ _ _ (returned (ended (told e)) Ring _ _ _ refl (c .compare .ensures .1 .0 ∙ measured e) ∙ says-ring e)
+    due _ _ _ (returned (ended (told e)) Ring _ _ _ refl (c .compare .ensures .1 .0) ∙ says-ring e)
 
 -- none
 returns-5 : tie.Need-returns-5 Inv-loop μ-loop
@@ -260,8 +260,8 @@ module _ (c : tie.After-enum-told3 Inv-loop μ-loop) where
   struck-row : length (take (walk (here .before) .n) (reached .row)) ≡ walk (here .before) .n
   struck-row = struck-length resumes nothing
 
-array-share-prefix-row-3 : tie.Need-array-share-prefix-row-3 Inv-loop μ-loop
-array-share-prefix-row-3 c = omega (arith, struck-inside (resumes c) (nothing c), struck-long (resumes c) (nothing c))
+array-share-prefix-row-4 : tie.Need-array-share-prefix-row-4 Inv-loop μ-loop
+array-share-prefix-row-4 c = omega (arith, struck-inside (resumes c) (nothing c), struck-long (resumes c) (nothing c))
 
 slice-aggregate-prefixes-of-2 : tie.Need-slice-aggregate-prefixes-of-2 Inv-loop μ-loop
 slice-aggregate-prefixes-of-2 c = sym (struck-row (c .before))
@@ -269,8 +269,8 @@ slice-aggregate-prefixes-of-2 c = sym (struck-row (c .before))
 prefixes-of-requires-2 : tie.Need-prefixes-of-requires-2 Inv-loop μ-loop
 prefixes-of-requires-2 c κs = let e = c .before in omega (arith, struck-row e, struck-inside (resumes e) (nothing e))
 
-array-share-prefix-row-4 : tie.Need-array-share-prefix-row-4 Inv-loop μ-loop
-array-share-prefix-row-4 c = array-share-prefix-row-3 (c .before .before .before)
+array-share-prefix-row-5 : tie.Need-array-share-prefix-row-5 Inv-loop μ-loop
+array-share-prefix-row-5 c = array-share-prefix-row-4 (c .before .before .before)
 
 slice-aggregate-read-2 : tie.Need-slice-aggregate-read-2 Inv-loop μ-loop
 slice-aggregate-read-2 c = sym (struck-row (c .before .before .before .before))
@@ -317,7 +317,9 @@ step-spec =
     go-on-requires
     sub-trials
     (λ c. search needs)
+    array-share-prefix-kept
     slice-aggregate-compare
+    array-share-prefix-row-3
     slice-aggregate-compare-2
     (λ c κs. search needs)
     returns-4
@@ -326,10 +328,10 @@ step-spec =
     (λ c. search needs)
     returns-6
     (λ c. search needs)
-    array-share-prefix-row-3
+    array-share-prefix-row-4
     slice-aggregate-prefixes-of-2
     prefixes-of-requires-2
-    array-share-prefix-row-4
+    array-share-prefix-row-5
     slice-aggregate-read-2
     read-requires-2
     loop-less

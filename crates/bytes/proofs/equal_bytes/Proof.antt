@@ -1,10 +1,10 @@
--- `words::word::equal_bytes` meets its contract: a word has at most 64 zeros in front.
+-- `bytes::equal_bytes` meets its contract: a word has at most 64 zeros in front.
 use mathlib.Core.Path.{refl}
 use native.Mathlib.Omega.{arith}
 use lib.Bits.{bitXor}
 use lib.Count.{leading-le}
-use Rattle.words.proofs.word.equal_bytes.Statement.{statement}
-use Rattle.words.proofs.word.equal_bytes.Tie as tie
+use Rattle.bytes.proofs.equal_bytes.Statement.{statement}
+use Rattle.bytes.proofs.equal_bytes.Tie as tie
 
 pub equal-bytes-spec : {M : Type 1} → statement M
 equal-bytes-spec =

@@ -1,0 +1,2 @@
+-- bytes in the other order, equal numbers, and the first byte where two differ
+pub mod Numbers

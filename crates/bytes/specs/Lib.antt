@@ -1,0 +1,2 @@
+-- Bytes as one number.
+pub mod Number
