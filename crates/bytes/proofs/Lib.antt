@@ -1,2 +1,4 @@
--- bytes in the other order, equal numbers, and the first byte where two differ
-pub mod Numbers
+-- a word read and its bytes in the other order
+pub mod ByteOrder
+-- equal numbers, and the first byte where two differ
+pub mod FirstUnequal

@@ -7,7 +7,7 @@ use native.Mathlib.Omega.{arith}
 use lib.Bits.{bitXor}
 use lib.Count.{leadingZeros}
 use lib.ListN.{getD, length, take}
-use Rattle.bytes.proofs.Numbers.{FirstByte, equal-bytes, first-byte}
+use Rattle.bytes.proofs.FirstUnequal.{FirstByte, equal-bytes, first-byte}
 use Rattle.bytes.specs.Number.{highFirst}
 use Rattle.words.proofs.Agreeing.{agree-cmp, agree-ended, agree-more, agree-place}
 use Rattle.words.proofs.Difference.{no-difference}

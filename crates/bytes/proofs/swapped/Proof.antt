@@ -2,7 +2,7 @@
 use Prim.Native.Nat.{_-_}
 use native.Mathlib.Omega.{arith}
 use borrow.Author.Needs.{needs}
-use Rattle.bytes.proofs.Numbers.{Swapping, swap-all, swap-more, swap-none, swap-room}
+use Rattle.bytes.proofs.ByteOrder.{Swapping, swap-all, swap-more, swap-none, swap-room}
 use Rattle.bytes.proofs.swapped.Statement.{statement}
 use Rattle.bytes.proofs.swapped.Tie as tie
 

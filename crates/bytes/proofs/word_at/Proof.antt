@@ -4,7 +4,7 @@ use Prim.Native.Nat.{ℕ, _+_}
 use native.Mathlib.Nat.{add-zero}
 use lib.ListN.{getD}
 use borrow.Author.Needs.{needs}
-use Rattle.bytes.proofs.Numbers.{by-halves}
+use Rattle.bytes.proofs.ByteOrder.{by-halves}
 use Rattle.bytes.proofs.word_at.Statement.{statement}
 use Rattle.bytes.proofs.word_at.Tie as tie
 
