@@ -9,10 +9,13 @@ from rings import (
     begins_by_tops,
     book,
     book_answers,
+    bracelets,
     drawer,
     first_difference,
+    is_kind,
     key,
     of_kind,
+    one_ring,
     opened,
     padded,
     pairs,
@@ -23,6 +26,7 @@ from rings import (
     step,
     stations,
     top,
+    turned_key,
     ways,
     without_symmetry,
     wrong,
@@ -169,6 +173,52 @@ def necklace_test():
         print(name, "compared", rows, "agreed", rows)
 
 
+# ---- bracelet_test
+
+
+def show_turned_key(digits, room):
+    row = symbols(digits)
+    n = len(row)
+    no = refusal((1, not stations(n)), (3, wrong(row)), (9, room < n))
+    print(f"turned key of {n} stations {digits} buffer {room}:", end=" ")
+    print(*([refused(*no), "as before 80"] if no else [text(turned_key(row)), "as before", 80 - n]))
+
+
+def ring_refusal(row, other):
+    return refusal((1, not stations(len(row))), (4, len(other) != len(row)), (3, wrong(row)), (3, wrong(other)))
+
+
+def show_ring(digits, others):
+    row, other = symbols(digits), symbols(others)
+    no = ring_refusal(row, other)
+    print(f"one ring of {len(row)} stations {digits} and {others}:", refused(*no) if no else said(one_ring(row, other)))
+
+
+def show_pairs(name, alphabet, longest):
+    """All pairs of rows of such symbols."""
+    rows = [row for n in range(longest + 1) for row in product(alphabet, repeat=n)]
+    told = [ring_refusal(*pair) or (said(one_ring(*pair)), 0) for pair in product(rows, repeat=2)]
+    answers = [answer for answer, _ in told]
+    print(f"pairs of rows of {name}: compared {len(told)} agreed {len(told)}", end=" ")
+    print(*(f"{answer} {answers.count(answer)}" for answer in ("yes", "no")), end=" ")
+    print("refused", *(f"{number} {answers.count(number)}" for number in (1, 4, 3)), end=" ")
+    print("places", sum(place for _, place in told))
+
+
+def bracelet_test():
+    for line in lines("bracelet_test"):
+        word = line.split(" ")
+        if word[0] == "turned":
+            show_turned_key(word[5], int(word[7]))
+        else:
+            show_ring(word[5], word[7])
+    rows = len(rows_to_10())
+    for name in ("turned key", "turned key of longer rows"):
+        print(name, "compared", rows, "agreed", rows)
+    show_pairs("up to 8 stations", (0, 1), 8)
+    show_pairs("up to 6 stations, with wrong bytes", (0, 1, 2), 6)
+
+
 # ---- pitches_test
 
 
@@ -242,7 +292,7 @@ def ways_refusal(n, d):
 
 
 def ceiling_refusal(n, d, kind):
-    return refusal((1, not stations(n)), (2, d > n), (5, kind not in (1, 2)))
+    return refusal((1, not stations(n)), (2, d > n), (5, not is_kind(kind)))
 
 
 def show_calls(name, told, numbers):
@@ -265,8 +315,9 @@ def lengths_test():
     show_calls("look-ups", (ways_refusal(*pair) for pair in pairs), (1, 2))
     kinds = (0, 1, 2, 3, 4, 255)
     show_calls("ceilings", (ceiling_refusal(*pair, kind) for pair in pairs for kind in kinds), (1, 2, 5))
-    for n, kind in product(range(1, 13), (1, 2)):
+    for n, kind in product(range(1, 15), (1, 2, 3)):
         rings = [sum(of_kind(kind, row) for row in drawer(n, d)) for d in range(n + 1)]
+        assert kind != 3 or rings == [bracelets(n, d) for d in range(n + 1)]
         assert all(ring <= ways(n, d) for d, ring in enumerate(rings))
         print(f"n {n} kind {kind}: drawers {n + 1} within {n + 1} rings {sum(rings)} ceilings {sum(ways(n, d) for d in range(n + 1))}")
 
@@ -305,7 +356,7 @@ def allowances(name):
 def compare(n, limits, allowed):
     walks = rings = trials = spent = places = 0
     for d in range(n + 1):
-        for kind in 1, 2:
+        for kind in 1, 2, 3:
             for limit in limits:
                 walks += 1
                 before = row_of_number(n, limit)
@@ -391,14 +442,14 @@ def show_outcomes(name, steps):
 
 
 def all_records(n):
-    """Kinds 0 to 3, up to n + 1 holes, all rows, all standings with places up to n + 1; up to 4 stations all rows kept."""
+    """Kinds 0 to 4, up to n + 1 holes, all rows, all standings with places up to n + 1; up to 4 stations all rows kept."""
     standings = [("Limit", 0), ("Given", 0), ("Ended", 0)]
     standings += [(where, p) for p in range(n + 2) for where in ("Down", "Up")]
     rows = list(product((0, 1), repeat=n))
     records = product(rows if n <= 4 else rows[:1], standings, rows, range(n + 2))
     for number, (kept, at, row, d) in enumerate(records):
         kept = rows[(rows.index(kept) + number) % len(rows)]
-        for kind in range(4):
+        for kind in range(5):
             yield n, d, kind, padded(row), at, padded(kept)
 
 
@@ -431,7 +482,7 @@ def random_step(record):
     which = drawn(record, 73, 8)
     kept = ZEROS if where == "Ended" and which < 7 else random_row(record + 500000, n)
     kept = row if which < 2 else kept
-    return (n, d, {0: 0, 1: 3}.get(kind, 1 + kind % 2), row, at, kept), allowance if allowance < 7 else PLENTY
+    return (n, d, {0: 0, 1: 4}.get(kind, 1 + kind % 3), row, at, kept), allowance if allowance < 7 else PLENTY
 
 
 def walk_record_test():
@@ -528,10 +579,10 @@ def digits_of(size, number):
 def opening(index):
     n = (0, 1, 2, 3, 4, 5, 6, 64, 65, 66)[index % 10]
     holes = index // 10 % 8
-    kind = (0, 1, 2, 3, 255, 256, 257, 258, 259)[index // 80 % 9]
-    size = max(n % 16 + index // 720 % 3 - 1, 0)
+    kind = (0, 1, 2, 3, 4, 256, 257, 258, 259, 260)[index // 80 % 10]
+    size = max(n % 16 + index // 800 % 3 - 1, 0)
     limit = digits_of(size, index % 1000 * 37)
-    which = index // 2160 % 4
+    which = index // 2400 % 4
     if which and size:
         limit[(0, 0, size - 1, (size + 1) // 2 - 1)[which]] = which * 80
     return values(n, 999 if holes == 7 else holes, kind, limit)
@@ -545,15 +596,15 @@ def printing_test():
     show_tally("other names", changed, 5)
     show_tally("bytes behind", (EXAMPLE + b"\n" * k for k in range(240)), 5)
     show_tally("lengths of the limit", (values(6, 3, 1, b"1" * k) for k in range(300)), 5)
-    show_tally("openings", map(opening, range(8640)), 1)
+    show_tally("openings", map(opening, range(9600)), 1)
     stopped = texts.refusal_text(texts.NUMBERS["Unfit"], 0)
     show_texts("other states", [stopped] * 3 + [texts.ring_line(MOST, (0,), 1, 0) + texts.end_line(0)], 301)
     for n in range(1, 15):
         limits = range(2**n) if n < 8 else [2**n - 1]
-        drawers = (values(n, d, k, digits_of(n, limit)) for d in range(n + 1) for limit in limits for k in (1, 2))
+        drawers = (values(n, d, k, digits_of(n, limit)) for d in range(n + 1) for limit in limits for k in (1, 2, 3))
         show_tally(f"stations {n}", drawers, 1)
     print("buffers of 0 to 4200 bytes")
-    for n, d, kind in (6, 3, 3), (14, 7, 1), (14, 7, 2):
+    for n, d, kind in (6, 3, 4), (14, 7, 1), (14, 7, 2):
         show_tally(f"({n},{d}) kind {kind}", [values(n, d, kind, digits_of(n, MOST))], 4201)
 
 

@@ -1,6 +1,7 @@
 """Document 01's definitions, for reading and not for speed. Rows are tuples of symbols."""
 from functools import lru_cache
 from itertools import product, zip_longest
+from math import gcd
 
 
 def turn(row, j):
@@ -43,8 +44,24 @@ def key(row):
     return least, next(j for j in range(len(row)) if turn(row, j) == least), period(row)
 
 
+def fittings(row):
+    """The turns of a row, and of its reverse."""
+    return [turn(face, j) for face in (row, row[::-1]) for j in range(len(row))]
+
+
+def turned_key(row):
+    return min(fittings(row))
+
+
+def one_ring(row, other):
+    """Turning over allowed."""
+    return other in fittings(row)
+
+
 def of_kind(kind, row):
-    return kind == 1 or without_symmetry(row)
+    if kind == 2:
+        return without_symmetry(row)
+    return kind == 1 or turned_key(row) == row
 
 
 @lru_cache(None)
@@ -75,11 +92,25 @@ def ways(n, d):
     return 1 if d in (0, n) else ways(n - 1, d - 1) + ways(n - 1, d)
 
 
+def bracelets(n, d):
+    """How many rings of kind 3 a drawer has, none of them listed: the rows that each turn and each turning over leaves as they are, on average."""
+    kept = sum(ways(g, d * g // n) for g in (gcd(n, j) for j in range(n)) if d * g % n == 0)
+    for j in range(n):
+        alone = sum((j - i) % n == i for i in range(n))
+        pairs = (n - alone) // 2
+        kept += sum(ways(alone, k) * ways(pairs, (d - k) // 2) for k in range(alone + 1) if (d - k) % 2 == 0 and 0 <= d - k <= 2 * pairs)
+    return kept // (2 * n)
+
+
 # ---- refusals
 
 
 def stations(n):
     return 1 <= n <= 64
+
+
+def is_kind(kind):
+    return 1 <= kind <= 3
 
 
 def wrong(row):
@@ -185,7 +216,7 @@ ZEROS = (0,) * 64
 
 
 def fit(n, d, kind, row, at, kept):
-    if not (stations(n) and d <= n and kind in (1, 2)):
+    if not (stations(n) and d <= n and is_kind(kind)):
         return False
     if any(x > 1 for x in row[:n] + kept[:n]) or any(row[n:] + kept[n:]):
         return False
@@ -248,5 +279,5 @@ def padded(row):
 
 def opened(n, d, kind, limit):
     """The refusal and None, or None and the walk."""
-    no = refusal((1, not stations(n)), (2, d > n), (5, kind not in (1, 2)), (4, len(limit) != n), (3, wrong(limit)))
+    no = refusal((1, not stations(n)), (2, d > n), (5, not is_kind(kind)), (4, len(limit) != n), (3, wrong(limit)))
     return (no, None) if no else (None, (n, d, kind, padded(limit), ("Limit", 0), padded(limit)))

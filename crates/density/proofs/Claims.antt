@@ -15,7 +15,9 @@ use Rattle.density.specs.Claims.{Chosen, Drawer, InDrawer, Kinds, OfDens
 use Rattle.density.specs.Necklaces.{necklaces, necklacesOfKind, ofKind}
 use Rattle.words.proofs.Falling.{keep-falling}
 use Rattle.words.proofs.Lists.{keep→, →keep}
+use Rattle.words.proofs.OrderTests.{same→, →same}
 use Rattle.words.proofs.Rotations.{isNecklace→, →isNecklace}
+use Rattle.words.specs.Reversal.{isBracelet, turnedKey}
 use Rattle.words.specs.Tests.{keep}
 
 pub rule : Rule
@@ -47,11 +49,15 @@ drawer n d = (necklaces-falling n d, λ w. (inside w, λ h. →member (record { 
         record { row = record { long = k .long; symbols = binary-within (k .binary); holes = k .count }; shelved = →isNecklace w (k .least) }
 
 pub kinds : Kinds
-unfolding necklacesOfKind ofKind
+unfolding necklacesOfKind ofKind isBracelet
 kinds n d w = (
   (λ m. drawer n d .1 w .0 (keep→ (ofKind 1) w (necklaces n d) m .0), λ h. →keep (ofKind 1) w (necklaces n d) (drawer n d .1 w .1 h) refl),
   (
     λ m. let k = keep→ (ofKind 2) w (necklaces n d) m in (drawer n d .1 w .0 (k .0), k .1),
     λ h. →keep (ofKind 2) w (necklaces n d) (drawer n d .1 w .1 (h .0)) (h .1),
+  ),
+  (
+    λ m. let k = keep→ (ofKind 3) w (necklaces n d) m in (drawer n d .1 w .0 (k .0), same→ (turnedKey w) w (k .1)),
+    λ h. →keep (ofKind 3) w (necklaces n d) (drawer n d .1 w .1 (h .0)) (→same (turnedKey w) w (h .1)),
   ),
 )

@@ -1,16 +1,15 @@
 -- The verdicts on a drawer, and on a drawer and a limit.
-use mathlib.Core.Bool.{Bool, false, false≢true, true, true≢false}
+use mathlib.Core.Bool.{Bool, false, true}
 use mathlib.Core.List.{List}
 use mathlib.Core.Path.{refl, _≡_}
-use Prim.Native.Nat.{suc, zero, ℕ, _≤_}
-use native.Mathlib.Omega.{arith}
+use Prim.Native.Nat.{ℕ, _≤_}
 use lib.Dec.{eqb, leb}
 use lib.ListN.{length}
 use borrow.Author.Tests.{eqb-true, leb-true}
 use Rattle.density.proofs.Binary.{Binary, no-wrong}
 use Rattle.density.specs.Drawers.{NoKind, drawerConditions, drawerNeeds, drawerVerdict, openVerdict}
 use Rattle.density.specs.Necklaces.{isKind}
-use Rattle.refusal.proofs.Conditions.{Chain, Tells, at-most-tells, need→, stations-tell, test}
+use Rattle.refusal.proofs.Conditions.{Chain, Tells, at-most-tells, need→, one-to-tells, stations-tell, test}
 use Rattle.refusal.proofs.Stations.{Sized, stations→}
 use Rattle.refusal.specs.Conditions.{Conditions}
 use Rattle.refusal.specs.Verdicts.{Verdict, accepted, areStations, need, refused}
@@ -21,10 +20,7 @@ use Rattle.words.specs.Symbols.{firstWrong}
 
 kind-tells : (kind : ℕ) → Tells (isKind kind) (NoKind kind)
 unfolding isKind
-kind-tells zero = (λ e. (λ z. omega arith, λ z. omega arith), λ e. absurd (false≢true e))
-kind-tells (suc zero) = (λ e. absurd (true≢false e), λ e h. h .0 refl)
-kind-tells (suc (suc zero)) = (λ e. absurd (true≢false e), λ e h. h .1 refl)
-kind-tells (suc (suc (suc k))) = (λ e. (λ z. omega arith, λ z. omega arith), λ e. absurd (false≢true e))
+kind-tells kind = one-to-tells 3 kind
 
 -- 1, 2 and 5, and what follows them
 pub drawer-chain : (n d kind : ℕ) {rest : Conditions} {v : Verdict} → Chain rest v → Chain (drawerConditions n d kind rest) (drawerNeeds n d kind v)

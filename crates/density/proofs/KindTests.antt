@@ -1,43 +1,26 @@
 -- Tests of a row, for the functions that make them: its kind, and whether it is a necklace of a density.
 use mathlib.Core.List.{List}
-use mathlib.Core.Bool.{false, false≢true, true}
-use mathlib.Core.Logic.{inl, inr, _⊎_}
+use mathlib.Core.Bool.{false, true}
 use mathlib.Core.Path.{refl, sym, _∙_, _≡_}
-use Prim.Native.Nat.{suc, zero, ℕ}
-use native.Mathlib.Omega.{arith}
-use lib.Dec.{eqb}
+use Prim.Native.Nat.{suc, zero, ℕ, _≤_}
 use borrow.Author.Tests.{eq-eqb, ne-eqb}
 use Rattle.density.proofs.Binary.{Binary, density-sum}
 use Rattle.density.specs.Density.{density}
 use Rattle.density.specs.Necklaces.{isKind, isNecklaceOf, ofKind}
+use Rattle.refusal.proofs.Stations.{oneTo→, →oneTo}
+use Rattle.words.specs.Reversal.{isBracelet}
 use Rattle.words.specs.Rotation.{isLyndon, isNecklace}
 use Rattle.words.specs.Symbols.{sum}
 
 -- ---- kinds
 
-pub kind-one : (k : ℕ) → k ≡ 1 → isKind k ≡ true
+pub kinds-known : (kind : ℕ) → isKind kind ≡ true → (1 ≤ kind) × (kind ≤ 3)
 unfolding isKind
-kind-one k e = rw e
+kinds-known kind e = oneTo→ 3 kind e
 
-pub kind-else : (k : ℕ) → (k ≡ 1 → ⊥) → eqb k 2 ≡ isKind k
+pub known-kind : (kind : ℕ) → (1 ≤ kind) × (kind ≤ 3) → isKind kind ≡ true
 unfolding isKind
-kind-else zero h = refl
-kind-else (suc zero) h = absurd (h refl)
-kind-else (suc (suc zero)) h = refl
-kind-else (suc (suc (suc k))) h = ne-eqb (suc (suc (suc k))) 2 (λ e. omega arith)
-
--- of two kinds
-pub one-of : (kind : ℕ) → isKind kind ≡ true → (kind ≡ 1) ⊎ (kind ≡ 2)
-unfolding isKind
-one-of zero e = absurd (false≢true e)
-one-of (suc zero) e = inl refl
-one-of (suc (suc zero)) e = inr refl
-one-of (suc (suc (suc k))) e = absurd (false≢true e)
-
-pub is-one : (kind : ℕ) → (kind ≡ 1) ⊎ (kind ≡ 2) → isKind kind ≡ true
-unfolding isKind
-is-one kind (inl e) = rw e
-is-one kind (inr e) = rw e
+known-kind kind h = →oneTo (h .0) (h .1)
 
 pub of-kind-one : (k : ℕ) (w : List ℕ) → k ≡ 1 → ofKind k w ≡ true
 unfolding ofKind
@@ -47,12 +30,17 @@ pub of-kind-two : (k : ℕ) (w : List ℕ) → k ≡ 2 → ofKind k w ≡ isLynd
 unfolding ofKind
 of-kind-two k w e = rw e
 
-pub of-kind-else : (k : ℕ) (w : List ℕ) → (k ≡ 1 → ⊥) → (k ≡ 2 → ⊥) → ofKind k w ≡ false
+pub of-kind-three : (k : ℕ) (w : List ℕ) → k ≡ 3 → ofKind k w ≡ isBracelet w
 unfolding ofKind
-of-kind-else zero w h g = refl
-of-kind-else (suc zero) w h g = absurd (h refl)
-of-kind-else (suc (suc zero)) w h g = absurd (g refl)
-of-kind-else (suc (suc (suc k))) w h g = refl
+of-kind-three k w e = rw e
+
+pub of-kind-else : (k : ℕ) (w : List ℕ) → (k ≡ 1 → ⊥) → (k ≡ 2 → ⊥) → (k ≡ 3 → ⊥) → ofKind k w ≡ false
+unfolding ofKind
+of-kind-else zero w a b c = refl
+of-kind-else (suc zero) w a b c = absurd (a refl)
+of-kind-else (suc (suc zero)) w a b c = absurd (b refl)
+of-kind-else (suc (suc (suc zero))) w a b c = absurd (c refl)
+of-kind-else (suc (suc (suc (suc k)))) w a b c = refl
 
 -- ---- membership
 

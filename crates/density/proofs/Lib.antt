@@ -31,3 +31,4 @@ pub mod PaddedRows
 pub mod KindTests
 -- what is claimed in specs/
 pub mod Claims
+pub mod TurnedRows

@@ -10,6 +10,7 @@ use Rattle.density.specs.Density.{density}
 use Rattle.density.specs.Necklaces.{necklaces, necklacesOfKind}
 use Rattle.words.specs.Symbols.{Within}
 use Rattle.words.specs.Falling.{Falling}
+use Rattle.words.specs.Reversal.{SameRing, turnedKey}
 use Rattle.words.specs.Rotation.{isLyndon, isNecklace}
 
 -- ---- the ways to choose stations
@@ -39,8 +40,16 @@ pub record InDrawer (n d : ℕ) (w : List ℕ) : Type 0 where
 abbrev pub Drawer : Type 0
 Drawer = (n d : ℕ) → Falling (necklaces n d) × ((w : List ℕ) → List·Memᴰ w (necklaces n d) ↔ InDrawer n d w)
 
--- "Kind 1 is all of them, kind 2 those without symmetry."
+-- "Kind 1 is all of them, kind 2 those without symmetry", kind 3 "the shelved rows that are their own turned-over key".
 abbrev pub Kinds : Type 0
 Kinds =
     (n d : ℕ) (w : List ℕ)
-    → (List·Memᴰ w (necklacesOfKind 1 n d) ↔ InDrawer n d w) × (List·Memᴰ w (necklacesOfKind 2 n d) ↔ (InDrawer n d w × (isLyndon w ≡ true)))
+    → (List·Memᴰ w (necklacesOfKind 1 n d) ↔ InDrawer n d w)
+    × (List·Memᴰ w (necklacesOfKind 2 n d) ↔ (InDrawer n d w × (isLyndon w ≡ true)))
+    × (List·Memᴰ w (necklacesOfKind 3 n d) ↔ (InDrawer n d w × (turnedKey w ≡ w)))
+
+-- every row has its turned-over key among the rings of kind 3 of its drawer, and no other of them is a turn of it or of its reverse
+abbrev pub TurnedInDrawer : Type 0
+TurnedInDrawer =
+    (n d : ℕ) (w : List ℕ) → 0 < n → OfDensity n d w
+    → List·Memᴰ (turnedKey w) (necklacesOfKind 3 n d) × ((v : List ℕ) → List·Memᴰ v (necklacesOfKind 3 n d) → SameRing w v → v ≡ turnedKey w)

@@ -1,6 +1,5 @@
 -- A drawer of a kind, (n, d, kind), and with a limit, (n, d, kind, limit): what is refused of them.
 use mathlib.Core.List.{List}
-use mathlib.Core.Logic.{_⊎_}
 use mathlib.Core.Path.{_≡_}
 use Prim.Native.Nat.{ℕ, _<_, _≤_}
 use lib.ListN.{length}
@@ -8,7 +7,7 @@ use lib.Dec.{eqb, leb}
 use Rattle.words.specs.Claims.{FirstOther}
 use Rattle.words.specs.Symbols.{Within, firstWrong}
 use Rattle.refusal.specs.declared.Refusal.the-variants.{Stations, Holes, Kind, Limit, Symbol}
-use Rattle.refusal.specs.Conditions.{Conditions, NoStations, no-more, when}
+use Rattle.refusal.specs.Conditions.{Conditions, NoStations, NotOneTo, no-more, when}
 use Rattle.refusal.specs.Verdicts.{Verdict, accepted, refused, need, areStations, mostStations}
 use Rattle.density.specs.Necklaces.{isKind}
 use Rattle.density.specs.declared.drawers.Checked.{Checked}
@@ -35,9 +34,9 @@ checkedVerdict (Checked.Refused r) = refused r
 
 -- ---- its conditions as plain facts
 
--- "5. kind not 1 or 2"
+-- "5 now means a kind not 1 to 3"
 abbrev pub NoKind : ℕ → Type 0
-NoKind kind = (kind ≡ 1 → ⊥) × (kind ≡ 2 → ⊥)
+NoKind kind = NotOneTo 3 kind
 
 -- 1, 2 and 5, before the rest
 abbrev pub drawerConditions : ℕ → ℕ → ℕ → Conditions → Conditions
@@ -55,6 +54,6 @@ pub record NoCondition (n d kind : ℕ) (limit : List ℕ) : Type 0 where
   pub some : 1 ≤ n
   pub most : n ≤ mostStations
   pub holes : d ≤ n
-  pub kinds : (kind ≡ 1) ⊎ (kind ≡ 2)
+  pub kinds : (1 ≤ kind) × (kind ≤ 3)
   pub long : length limit ≡ n
   pub symbols : Within 2 limit

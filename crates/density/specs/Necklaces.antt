@@ -3,8 +3,10 @@ use mathlib.Core.Bool.{Bool, true, false, _&&_}
 use mathlib.Core.List.{List, [], headD}
 use Prim.Native.Nat.{ℕ, zero, suc}
 use lib.Dec.{eqb}
+use Rattle.refusal.specs.Verdicts.{oneTo}
 use Rattle.words.specs.Order.{le, lt}
 use Rattle.words.specs.Tests.{keep, any, isPrefix}
+use Rattle.words.specs.Reversal.{isBracelet}
 use Rattle.words.specs.Rotation.{isNecklace, isLyndon}
 use Rattle.density.specs.Density.{density, allRows}
 
@@ -16,19 +18,18 @@ isNecklaceOf d w = eqb (density w) d && isNecklace w
 unfoldable pub necklaces : ℕ → ℕ → List (List ℕ)
 necklaces n d = keep (isNecklaceOf d) (allRows n)
 
--- Which kinds there are.
+-- "Kind 1 to 3."
 unfoldable pub isKind : ℕ → Bool
-isKind zero = false
-isKind (suc zero) = true
-isKind (suc (suc zero)) = true
-isKind (suc (suc (suc k))) = false
+isKind kind = oneTo 3 kind
 
--- "Kind 1 is all of them, kind 2 those without symmetry": a test of a shelved row.
+-- "Kind 1 is all of them, kind 2 those without symmetry", "kind 3 is the shelved rows that are their own turned-over key": a test of a
+-- shelved row.
 unfoldable pub ofKind : ℕ → List ℕ → Bool
 ofKind zero w = false
 ofKind (suc zero) w = true
 ofKind (suc (suc zero)) w = isLyndon w
-ofKind (suc (suc (suc k))) w = false
+ofKind (suc (suc (suc zero))) w = isBracelet w
+ofKind (suc (suc (suc (suc k)))) w = false
 
 -- the rings of the drawer that are of a kind, falling
 unfoldable pub necklacesOfKind : ℕ → ℕ → ℕ → List (List ℕ)

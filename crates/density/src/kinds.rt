@@ -6,5 +6,5 @@ ghost use Rattle.density.specs.Necklaces.{isKind};
 pub fn is_kind(kind: u8) -> bool
     ensures { λ r. ⌜ r ≡ isKind kind ⌝ }
 {
-    kind == 1 || kind == 2
+    1 <= kind && kind <= 3
 }

@@ -47,5 +47,5 @@ pub fn ceiling_refusal(n: usize, d: usize, kind: u8) -> usize {
     if n < d {
         return 2;
     }
-    if kind == 1 || kind == 2 { 0 } else { 5 }
+    if kind == 0 || 3 < kind { 5 } else { 0 }
 }

@@ -62,18 +62,20 @@ pub fn show_all() {
           ceiling 1 1 2\n\
           ceiling 64 32 1\n\
           ceiling 64 32 2\n\
+          ceiling 64 32 3\n\
+          ceiling 4 2 3\n\
           ceiling 0 0 1\n\
           ceiling 65 0 1\n\
           ceiling most most 1\n\
           ceiling 0 1 0\n\
-          ceiling 65 66 3\n\
+          ceiling 65 66 4\n\
           ceiling 4 5 1\n\
           ceiling 64 65 2\n\
           ceiling 4 most 1\n\
           ceiling 4 5 0\n\
-          ceiling 4 5 3\n\
+          ceiling 4 5 4\n\
           ceiling 4 4 0\n\
-          ceiling 4 2 3\n\
+          ceiling 4 2 4\n\
           ceiling 64 64 255\n",
     );
 }

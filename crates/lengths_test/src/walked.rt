@@ -5,8 +5,8 @@ use walk::Walk;
 ghost use Prim.Native.Nat.{_≤_};
 ghost use Rattle.refusal.specs.Verdicts.{mostStations};
 
-// More trials than any ring takes.
-const PLENTY: u64 = 1000;
+// More trials than any walk of up to 14 stations takes.
+const PLENTY: u64 = 16384;
 
 // How many rings a walk names, as far as they are at most `most`, and one more.
 fn rings(n: usize, d: usize, kind: u8, most: u64) -> u64
@@ -76,9 +76,10 @@ fn compare(n: usize, kind: u8)
 
 pub fn compare_all() {
     let mut n: usize = 1;
-    while n <= 12 {
+    while n <= 14 {
         compare(n, 1);
         compare(n, 2);
+        compare(n, 3);
         n += 1;
     }
 }

@@ -8,7 +8,8 @@ pub mod RingsNamed
 pub mod ListingLeft
 pub mod Totalled
 pub mod PlacesNamed
--- both ceilings of the trials
+-- the ceilings of the trials: of a line, and of all lines
 pub mod TrialBounds
+pub mod AllTrials
 -- what is claimed in specs/
 pub mod Claims

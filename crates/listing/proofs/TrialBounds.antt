@@ -10,11 +10,11 @@ use Rattle.density.proofs.Binary.{Binary, within-binary}
 use Rattle.density.proofs.Counts.{density-few}
 use Rattle.density.proofs.Members.{member→, necklaces-falling}
 use Rattle.density.proofs.Neighbours.{neighbours-test}
-use Rattle.density.specs.Necklaces.{isKind, isNecklaceOf, necklaces, necklacesBelow, necklacesUpTo, ofKind}
+use Rattle.density.specs.Necklaces.{isNecklaceOf, necklaces, necklacesBelow, necklacesUpTo, ofKind}
 use Rattle.listing.proofs.RingsNamed.{rings-all}
 use Rattle.listing.proofs.Strikes.{Closed, all-closed, last, line}
-use Rattle.listing.specs.Claims.{Kind1Prices, Prices}
-use Rattle.listing.specs.Listing.{Listing, allLines, book, counted, entry, front, limitFirst, linesFrom, listing, none, over, price, raise, ring, strike, struck}
+use Rattle.listing.specs.Claims.{Kind1Prices, Kind2Prices}
+use Rattle.listing.specs.Listing.{Listing, allLines, counted, entry, front, limitFirst, linesFrom, listing, none, over, price, raise, ring, strike, struck}
 use Rattle.listing.specs.Totals.{AtMost, Starts, all-over, and-then, at-once, owed, ringsOf, then}
 use Rattle.words.proofs.Falling.{ends-below}
 use Rattle.words.proofs.Lists.{keep→}
@@ -28,11 +28,11 @@ front-few [] = omega arith
 front-few (a ∷ []) = omega arith
 front-few (a ∷ (b ∷ x)) = omega (arith, front-few (b ∷ x))
 
-counted-few : (l : Bool) (x : List ℕ) → counted l x ≤ length x
+pub counted-few : (l : Bool) (x : List ℕ) → counted l x ≤ length x
 counted-few true x = omega (arith, density-few (front x), front-few x)
 counted-few false x = density-few x
 
-price-few : (l : Bool) (x r : List ℕ) → length x ≡ length r → price l x r ≤ 2 * length x - 1
+pub price-few : (l : Bool) (x r : List ℕ) → length x ≡ length r → price l x r ≤ 2 * length x - 1
 unfolding price
 price-few l [] r e = omega arith
 price-few l (a ∷ x) [] e = omega arith
@@ -124,20 +124,8 @@ unfolding listing ofKind
 kind-1-prices n d limit s l = rw (strike-nothing (ofKind 1) (λ r. refl) (all-closed n d limit)) (prices-few n d limit s l)
 
 -- of kind 2, more than 4 n - 2
-kind-2-prices : (n d : ℕ) (limit : List ℕ) → 1 ≤ n → length limit ≡ n → Binary limit → AtMost (4 * n - 2) (book n d 2 limit)
+pub kind-2-prices : Kind2Prices
 unfolding listing ofKind
 kind-2-prices n d limit s l b =
     let m : (2 * n - 1) + (2 * n - 1) ≡ 4 * n - 2 = omega (arith, s) in
-    rw m at (strike-few isLyndon (2 * n - 1) (all-closed n d limit) (prices-few n d limit s l) (lines-spaced n d limit l b) .0)
-
-at-most-more : {b c : ℕ} {l : Listing} → b ≤ c → AtMost b l → AtMost c l
-at-most-more h all-over = all-over
-at-most-more h (and-then {p = p} q m) = and-then {p = p} (omega arith) (at-most-more h m)
-
--- of each kind
-pub prices : Prices
-unfolding isKind
-prices n d zero limit k s l b = absurd (true≢false (sym k))
-prices n d (suc zero) limit k s l b = at-most-more (omega (arith, s)) (kind-1-prices n d limit s l)
-prices n d (suc (suc zero)) limit k s l b = kind-2-prices n d limit s l (within-binary limit b)
-prices n d (suc (suc (suc k))) limit e s l b = absurd (true≢false (sym e))
+    rw m at (strike-few isLyndon (2 * n - 1) (all-closed n d limit) (prices-few n d limit s l) (lines-spaced n d limit l (within-binary limit b)) .0)

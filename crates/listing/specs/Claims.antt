@@ -3,11 +3,11 @@ use mathlib.Core.Bool.{Bool, false, true}
 use mathlib.Core.List.{List, List·Memᴰ, _++_, _∷_}
 use mathlib.Core.Logic.{_↔_}
 use mathlib.Core.Path.{_≡_}
-use Prim.Native.Nat.{ℕ, _*_, _+_, _-_, _≤_}
+use Prim.Native.Nat.{ℕ, _*_, _+_, _-_, _<_, _^_, _≤_}
 use lib.ListN.{length}
-use Rattle.density.specs.Necklaces.{isKind, isNecklaceOf, necklaces}
+use Rattle.density.specs.Necklaces.{isNecklaceOf, necklaces}
 use Rattle.listing.specs.Listing.{allLines, book, counted, entry, linesBelow, none, over, price, ring}
-use Rattle.listing.specs.Totals.{AtMost}
+use Rattle.listing.specs.Totals.{AtMost, allTrials}
 use Rattle.words.specs.Falling.{Highest}
 use Rattle.words.specs.Order.{lt}
 use Rattle.words.specs.Symbols.{Within}
@@ -43,6 +43,10 @@ Price = (isLine : Bool) (u x r : List ℕ) (a b : ℕ) → (a ≡ b → ⊥) →
 abbrev pub Kind1Prices : Type 0
 Kind1Prices = (n d : ℕ) (limit : List ℕ) → 1 ≤ n → length limit ≡ n → AtMost (2 * n - 1) (book n d 1 limit)
 
--- of each kind, none costs more than 4 n - 2
-abbrev pub Prices : Type 0
-Prices = (n d kind : ℕ) (limit : List ℕ) → isKind kind ≡ true → 1 ≤ n → length limit ≡ n → Within 2 limit → AtMost (4 * n - 2) (book n d kind limit)
+-- of kind 2, none costs more than 4 n - 2
+abbrev pub Kind2Prices : Type 0
+Kind2Prices = (n d : ℕ) (limit : List ℕ) → 1 ≤ n → length limit ≡ n → Within 2 limit → AtMost (4 * n - 2) (book n d 2 limit)
+
+-- of any kind, all lines and none together cost fewer than 2 ^ n
+abbrev pub AllPrices : Type 0
+AllPrices = (n d kind : ℕ) (limit : List ℕ) → 1 ≤ n → length limit ≡ n → Within 2 limit → allTrials (book n d kind limit) < 2 ^ n

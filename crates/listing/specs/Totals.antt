@@ -32,6 +32,16 @@ abbrev pub owed : Listing → ℕ
 owed over = 0
 owed (entry s p rest) = p
 
+-- the trials of all of it
+unfoldable pub allTrials : Listing → ℕ
+allTrials over = 0
+allTrials (entry s p rest) = p + allTrials rest
+
+-- the trials of some answers, together
+unfoldable pub trialsTold : List Told → ℕ
+trialsTold [] = 0
+trialsTold (t ∷ more) = t .trials + trialsTold more
+
 -- whether "none" is among the answers
 pub data SaysNone : List Told → Type 0 where
   now : {t : ℕ} {more : List Told} → SaysNone (record { said = says none; trials = t } ∷ more)

@@ -63,23 +63,6 @@ fn class_agrees(row: &[u8; refusal::MOST_STATIONS], n: usize) -> bool {
     }
 }
 
-// The row of n symbols that repeats the first p symbols of a row.
-fn repeated(
-    row: &[u8; refusal::MOST_STATIONS],
-    p: usize,
-    n: usize,
-) -> [u8; refusal::MOST_STATIONS] {
-    let mut longer = [0u8; refusal::MOST_STATIONS];
-    let mut i: usize = 0;
-    while i < refusal::MOST_STATIONS {
-        if i < n {
-            longer[i] = test_rows::symbol(row, p, 0, i);
-        }
-        i += 1;
-    }
-    longer
-}
-
 // The rows are numbered: a binary 1 and then the symbols. Each is repeated to a row of 11 to 64 stations.
 pub fn compare_all() {
     let mut keys: usize = 0;
@@ -93,7 +76,7 @@ pub fn compare_all() {
         keys += test_rows::one_if(key_agrees(&row, n));
         classes += test_rows::one_if(class_agrees(&row, n));
         let m = 11 + number % 54;
-        let longer = repeated(&row, n, m);
+        let longer = test_rows::repeated(&row, n, m);
         longer_keys += test_rows::one_if(key_agrees(&longer, m));
         longer_classes += test_rows::one_if(class_agrees(&longer, m));
         number += 1;

@@ -193,16 +193,19 @@ impl Known {
 
     // Whether a, which is known, is of a kind, if it is a necklace.
     pub fn is_of_kind(self, kind: u8, a: &[u8]) -> bool
-        requires { ⌜ (0 < length (now a)) × (isNecklace (now a) ≡ true) × Knows (now a) self ⌝ }
+        requires { ⌜ (0 < length (now a)) × (length (now a) ≤ mostStations) × (isNecklace (now a) ≡ true) × Knows (now a) self ⌝ }
         ensures { λ r. ⌜ r ≡ ofKind kind (now (a .entry)) ⌝ }
     {
         let p = self.period;
         if kind == 1 {
             return true;
         }
-        if kind != 2 {
-            return false;
+        if kind == 2 {
+            return words::inner::scanned_period(a, p) == a.len();
         }
-        words::inner::scanned_period(a, p) == a.len()
+        if kind == 3 {
+            return bracelet::inner::is_bracelet(a);
+        }
+        false
     }
 }

@@ -2,19 +2,18 @@
 use mathlib.Core.Bool.{Bool, cond, false, true}
 use mathlib.Core.List.{List, _++_}
 use mathlib.Core.Path.{ap, refl, sym, _∙_, _≡_}
-use Prim.Native.Nat.{suc, zero, ℕ, _*_, _+_, _-_, _≤_}
+use Prim.Native.Nat.{ℕ, _+_, _≤_}
 use native.Mathlib.Omega.{arith}
 use lib.Dec.{eqb, leb, ltb}
 use lib.ListN.{length}
 use borrow.Author.Tests.{le-leb, lt-ltb, ltb-false}
-use Rattle.density.proofs.Binary.{binary-within}
+use Rattle.density.proofs.KindTests.{kinds-known}
 use Rattle.density.specs.Necklaces.{isKind, ofKind}
 use Rattle.drawer_lines.specs.Lines.{header, refusalText}
 use Rattle.listing.proofs.Strikes.{Closed, last, line, listing-closed}
-use Rattle.listing.proofs.TrialBounds.{prices}
 use Rattle.listing.specs.Listing.{Listing, listing}
-use Rattle.listing.specs.Totals.{AtMost, and-then, ringsOf}
-use Rattle.printing.proofs.Numbers.{numbered}
+use Rattle.listing.specs.Totals.{allTrials, ringsOf}
+use Rattle.printing.proofs.Numbers.{numbered, priced}
 use Rattle.printing.specs.Left.{highest64, left, linesLeft, ringsLeft}
 use Rattle.printing.specs.InnerNextLine.{printing}
 use Rattle.printing.specs.Text.{askedText, linesText, openedText}
@@ -29,14 +28,15 @@ use Rattle.walk.specs.Moves.{rules}
 use Rattle.walk.specs.Opening.{fresh, openOutcome, openVerdict, openWalk}
 use Rattle.walk.specs.declared.OpenAnswer.{OpenAnswer}
 use Rattle.walk.specs.declared.Opened.{Opened}
+use Rattle.words.proofs.Booleans.{never}
 use Rattle.words.specs.Symbols.{firstWrong}
 
 -- a book whose prices and numbers fit is printed to its end
-lines-same : (b k : ℕ) {l : Listing} → Closed l → AtMost b l → b ≤ highest64 → k + length (ringsOf l) ≤ highest64 → linesLeft k l ≡ linesText k l
-unfolding linesLeft linesText ringsOf
-lines-same b k (last {p = p}) (and-then q m) h n = rw (le-leb p highest64 (omega arith))
-lines-same b k (line {r = r} {p = p} {l = l} c) (and-then q m) h n =
-    let f = lines-same b (k + 1) c m h (omega arith) in
+lines-same : (k : ℕ) {l : Listing} → Closed l → allTrials l ≤ highest64 → k + length (ringsOf l) ≤ highest64 → linesLeft k l ≡ linesText k l
+unfolding linesLeft linesText ringsOf allTrials
+lines-same k (last {p = p}) h n = rw (le-leb p highest64 (omega arith))
+lines-same k (line {r = r} {p = p} {l = l} c) h n =
+    let f = lines-same (k + 1) c (omega arith) (omega arith) in
     rw (le-leb p highest64 (omega arith), lt-ltb k highest64 (omega arith), f)
 
 -- an accepted opening
@@ -44,18 +44,12 @@ opened-lines : (n d kind : ℕ) (limit : List ℕ) → Admitted rules n d kind l
 unfolding ringsLeft
 opened-lines n d kind limit o =
     let e = fresh-stands rules n d kind limit o in
-    let c = listing-closed n d (ofKind kind) limit in
-    rw (fresh-fit rules n d kind limit o .test, e)
-    (lines-same (4 * n - 2) 0 c (prices n d kind limit (o .kinds) (o .stations) (o .long) (binary-within (o .binary))) (omega (arith, o .most)) (omega (arith, numbered n d kind limit o)))
+    rw (fresh-fit rules n d kind limit o .test, e) (lines-same 0 (listing-closed n d (ofKind kind) limit) (priced n d kind limit o) (omega (arith, numbered n d kind limit o)))
 
 -- ---- a kind that no byte holds is refused as any other that is none
 
 big-kind : (kind : ℕ) → 256 ≤ kind → isKind kind ≡ false
-unfolding isKind
-big-kind zero h = absurd (omega arith)
-big-kind (suc zero) h = absurd (omega arith)
-big-kind (suc (suc zero)) h = absurd (omega arith)
-big-kind (suc (suc (suc k))) h = refl
+big-kind kind h = never (isKind kind) (λ e. omega (arith, kinds-known kind e .1))
 
 module _ (n d kind : ℕ) (limit : List ℕ) where
   no-kind : (b c : Bool) (v : Verdict) → openedText (need b Stations (need c Holes (need false Kind v))) n d 0 limit ≡ openedText (need b Stations (need c Holes (need false Kind v))) n d kind limit

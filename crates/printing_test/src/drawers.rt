@@ -77,7 +77,7 @@ pub fn refused(case: Case) -> usize {
     if case.n < case.d {
         return 200;
     }
-    if case.kind == 0 || 2 < case.kind {
+    if case.kind == 0 || 3 < case.kind {
         return 500;
     }
     if case.size != case.n {
@@ -119,15 +119,15 @@ fn wrong_of(size: usize, i: usize) -> usize
     }
 }
 
-// Stations 0 to 6 and 64 to 66, 0 to 6 holes and 999, kinds 0 to 3 and 255 to 259, some of which a byte would cut to 1 and 2.
+// Stations 0 to 6 and 64 to 66, 0 to 6 holes and 999, kinds 0 to 4 and 256 to 260, some of which a byte would cut to 1 to 3.
 pub fn opening(index: usize) -> Case {
     let n = spread(index % 10, 7, 57);
-    let size = size_of(n, index / 720 % 3);
-    let which = index / 2160 % 4;
+    let size = size_of(n, index / 800 % 3);
+    let which = index / 2400 % 4;
     Case {
         n,
         d: spread(index / 10 % 8, 7, 992),
-        kind: spread(index / 80 % 9, 4, 251),
+        kind: spread(index / 80 % 10, 5, 251),
         size,
         limit: index % 1000 * 37,
         wrong: wrong_of(size, which),
@@ -145,17 +145,17 @@ fn limits_of(n: usize, half: usize) -> usize
     if n < 8 { 2 * half } else { 1 }
 }
 
-// How many drawers of n stations there are, each of both kinds and at each limit.
+// How many drawers of n stations there are, each of each kind and at each limit.
 pub fn count(n: usize) -> usize
     requires { ⌜ n ≤ 14 ⌝ }
 {
-    (n + 1) * 2 * limits_of(n, test_walks::book::half_of(n))
+    (n + 1) * 3 * limits_of(n, test_walks::book::half_of(n))
 }
 
-// The drawers of n stations: both kinds of each limit, holes by holes.
+// The drawers of n stations: each kind of each limit, holes by holes.
 pub fn numbered(n: usize, index: usize) -> Case {
     let half = test_walks::book::half_of(n);
     let limits = limits_of(n, half);
-    let limit = index / 2 % limits + (2 * half - limits);
-    drawer(n, index / 2 / limits, 1 + index % 2, limit)
+    let limit = index / 3 % limits + (2 * half - limits);
+    drawer(n, index / 3 / limits, 1 + index % 3, limit)
 }

@@ -36,7 +36,7 @@ fn show_faults() {
     sets::show(b"other names", Set::Name, 26);
     sets::show(b"bytes behind", Set::Behind, 240);
     sets::show(b"lengths of the limit", Set::Limit, 300);
-    sets::show(b"openings", Set::Openings, 8640);
+    sets::show(b"openings", Set::Openings, 9600);
     sets::show(b"other states", Set::States, 4);
 }
 
@@ -51,7 +51,7 @@ fn show_drawers() {
 
 fn show_rooms() {
     io::write_all(1, b"buffers of 0 to 4200 bytes\n");
-    sets::show(b"(6,3) kind 3", Set::One(6, 3, 3), 1);
+    sets::show(b"(6,3) kind 4", Set::One(6, 3, 4), 1);
     sets::show(b"(14,7) kind 1", Set::One(14, 7, 1), 1);
     sets::show(b"(14,7) kind 2", Set::One(14, 7, 2), 1);
 }
@@ -59,6 +59,7 @@ fn show_rooms() {
 fn main() {
     show(6, 3, 1);
     show(6, 3, 2);
+    show(6, 3, 3);
     show(64, 1, 2);
     show(64, 64, 1);
     show_faults();

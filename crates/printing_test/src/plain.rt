@@ -76,7 +76,7 @@ fn append_book(text: &mut [u8], n: usize, half: usize, d: usize, kind: u8, limit
         if book.none {
             return at;
         }
-        book = test_walks::book::stepped(n, half, d, kind, book, 1000);
+        book = test_walks::book::stepped(n, half, d, kind, book, 100000);
         number += 1;
     }
     0

@@ -6,9 +6,9 @@ use Prim.Native.Nat.{suc, zero, ℕ, _<_, _≤_}
 use native.Mathlib.Omega.{arith}
 use lib.Dec.{eqb, leb}
 use borrow.Author.Tests.{eqb-false, eqb-true, leb-false, leb-true}
-use Rattle.refusal.proofs.Stations.{Sized, stations→, →stations}
-use Rattle.refusal.specs.Conditions.{AcceptedExactly, Conditions, FirstOf, NoStations, OnlyUnder, no-more, when}
-use Rattle.refusal.specs.Verdicts.{Verdict, accepted, areStations, mostStations, need, refused}
+use Rattle.refusal.proofs.Stations.{oneTo→, →oneTo}
+use Rattle.refusal.specs.Conditions.{AcceptedExactly, Conditions, FirstOf, NoStations, NotOneTo, OnlyUnder, no-more, when}
+use Rattle.refusal.specs.Verdicts.{Verdict, accepted, areStations, mostStations, need, oneTo, refused}
 use Rattle.refusal.specs.declared.Refusal.{Refusal}
 use Rattle.words.proofs.Booleans.{clash}
 
@@ -48,20 +48,24 @@ at-most-tells m n = (λ e. leb-false m n e, λ e h. omega (arith, leb-true m n e
 pub equal-tells : (m n : ℕ) → Tells (eqb m n) (m ≡ n → ⊥)
 equal-tells m n = (λ e. eqb-false m n e, λ e h. h (eqb-true m n e))
 
-pub stations-tell : (n : ℕ) → Tells (areStations n) (NoStations n)
-stations-tell n = (λ e. outside e (le-or n mostStations), λ e. inside (stations→ n e))
+pub one-to-tells : (most n : ℕ) → Tells (oneTo most n) (NotOneTo most n)
+one-to-tells most n = (λ e. outside e (le-or n most), λ e. inside (oneTo→ most n e))
   where
-    outside : areStations n ≡ false → (n ≤ mostStations) ⊎ (mostStations < n) → NoStations n
+    outside : oneTo most n ≡ false → (n ≤ most) ⊎ (most < n) → NotOneTo most n
     outside e (inl h) = none (zero-or n)
       where
-        none : (n ≡ 0) ⊎ (1 ≤ n) → NoStations n
+        none : (n ≡ 0) ⊎ (1 ≤ n) → NotOneTo most n
         none (inl z) = inl z
-        none (inr s) = absurd (true≢false (sym (→stations (record { some = s; most = h })) ∙ e))
+        none (inr s) = absurd (true≢false (sym (→oneTo s h) ∙ e))
     outside e (inr h) = inr h
 
-    inside : Sized n → NoStations n → ⊥
-    inside s (inl z) = omega (arith, s .some)
-    inside s (inr h) = omega (arith, s .most)
+    inside : (1 ≤ n) × (n ≤ most) → NotOneTo most n → ⊥
+    inside s (inl z) = omega (arith, s .0)
+    inside s (inr h) = omega (arith, s .1)
+
+pub stations-tell : (n : ℕ) → Tells (areStations n) (NoStations n)
+unfolding areStations
+stations-tell n = one-to-tells mostStations n
 
 -- ---- what follows
 

@@ -33,6 +33,10 @@ OnlyUnder = (c : Conditions) (v : Verdict) → FirstOf c v → (r : Refusal) →
 abbrev pub AcceptedExactly : Type 1
 AcceptedExactly = (c : Conditions) (v : Verdict) → FirstOf c v → (v ≡ accepted) ↔ NoneHolds c
 
+-- n is none of 1 to most
+abbrev pub NotOneTo : ℕ → ℕ → Type 0
+NotOneTo most n = (n ≡ 0) ⊎ (most < n)
+
 -- "1. stations not 1 to 64"
 abbrev pub NoStations : ℕ → Type 0
-NoStations n = (n ≡ 0) ⊎ (mostStations < n)
+NoStations n = NotOneTo mostStations n

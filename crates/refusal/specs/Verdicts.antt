@@ -8,9 +8,13 @@ use Rattle.refusal.specs.declared.Refusal.{Refusal}
 abbrev pub mostStations : ℕ
 mostStations = 64
 
+-- n is one of 1 to most
+abbrev pub oneTo : ℕ → ℕ → Bool
+oneTo most n = leb 1 n && leb n most
+
 -- "Stations 1 to 64."
 unfoldable pub areStations : ℕ → Bool
-areStations n = leb 1 n && leb n mostStations
+areStations n = oneTo mostStations n
 
 -- what an operation's conditions come to
 pub data Verdict : Type 0 where

@@ -14,10 +14,11 @@ use Rattle.walk.specs.Step.{enough, run, stepOf, walkPlaced}
 use Rattle.words.specs.Difference.{firstDifference}
 use Rattle.words.specs.Order.{cmp, le, lt, same}
 use Rattle.words.specs.Pairs.{cut, pairs, upToUnequal}
+use Rattle.words.specs.Reversal.{isBracelet, lowerOf, oneRing, rotatesTo, turnedKey}
 use Rattle.words.specs.Rotation.{isLeastAt, isLyndon, isNecklace, leastIndex, leastRotation, period, rotation}
 use Rattle.words.specs.Symbols.{allUpTo, firstWhere, firstWrong}
-use Rattle.words.specs.Tests.{allBelow, any, firstFrom, isPrefix, keep}
+use Rattle.words.specs.Tests.{allBelow, any, firstFrom, isPrefix, keep, someBelow}
 
 pub starred-hold : Say starred
-unfolding starred openVerdict areStations firstWrong firstWhere firstDifference cmp le lt same pairs cut upToUnequal allBelow firstFrom keep any isPrefix rotation isNecklace period isLeastAt leastIndex leastRotation density allRows isNecklaceOf necklaces headD largestNecklace begins pitchesFrom pitchesOfRow walkPlaced stepOf fit fitAt fitSizes isPadded allUpTo run enough moveAt isKind ofKind isLyndon
-starred-hold = ((refl, refl, refl), ((refl, refl, refl), (refl, (refl, (refl, (refl, (refl, ((refl, refl, refl), ((refl, refl, refl), ((refl, refl, refl), (refl, (refl, (refl, (refl, (refl, (refl, (refl, tt)))))))))))))))))
+unfolding starred openVerdict areStations firstWrong firstWhere firstDifference cmp le lt same pairs cut upToUnequal allBelow someBelow firstFrom keep any isPrefix rotation isNecklace period isLeastAt leastIndex leastRotation lowerOf turnedKey isBracelet rotatesTo oneRing density allRows isNecklaceOf necklaces headD largestNecklace begins pitchesFrom pitchesOfRow walkPlaced stepOf fit fitAt fitSizes isPadded allUpTo run enough moveAt isKind ofKind isLyndon
+starred-hold = ((refl, refl, refl), ((refl, refl, refl), (refl, (refl, (refl, (refl, (refl, ((refl, refl, refl), ((refl, refl, refl), ((refl, refl, refl), (refl, (refl, (refl, (refl, (refl, (refl, (refl, (refl, (refl, (refl, (refl, tt)))))))))))))))))))))

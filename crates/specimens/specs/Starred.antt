@@ -1,4 +1,5 @@
--- The starred specimens of document 01, with the places of M-100, the pitches of M-110 and the pairs of M-130, and what each says of the definitions.
+-- The starred specimens of document 01, with the places of M-100, the pitches of M-110, the pairs of M-130 and rings of M-140 that are turned
+-- over, and what each says of the definitions.
 use mathlib.Core.Path.{_≡_}
 use mathlib.Core.Bool.{Bool, true, false}
 use mathlib.Core.List.{List, [], _∷_, _++_}
@@ -6,6 +7,7 @@ use Prim.Native.Nat.{ℕ}
 use Rattle.words.specs.Difference.{firstDifference}
 use Rattle.words.specs.Order.{cmp, orderOf}
 use Rattle.words.specs.Pairs.{pairs}
+use Rattle.words.specs.Reversal.{oneRing, turnedKey}
 use Rattle.words.specs.Rotation.{leastRotation, leastIndex, period}
 use Rattle.words.specs.Symbols.{ones, zeros}
 use Rattle.words.specs.declared.Order.{Order}
@@ -29,6 +31,10 @@ pub data Specimen : Type 0 where
   pitches : List ℕ → List ℕ → Specimen
   -- two rows: their order, the place where they first differ, and the pairs compared
   compared : List ℕ → List ℕ → Order → ℕ → ℕ → Specimen
+  -- turned-over key of a row
+  turned : List ℕ → List ℕ → Specimen
+  -- two rows: one ring, turning over allowed, yes or no
+  fits : List ℕ → List ℕ → Bool → Specimen
   -- drawer (n, d), kind, limit: the first answer of the walk that opening hands out, its place and its trials
   step : ℕ → ℕ → ℕ → List ℕ → Line → ℕ → ℕ → Specimen
 
@@ -39,6 +45,8 @@ Says (prefix n d p answer) = begins n d p ≡ answer
 Says (top n d w) = largestNecklace n d ≡ w
 Says (pitches w list) = pitchesOfRow w ≡ list
 Says (compared a b order place number) = (orderOf (cmp a b) ≡ order) × (firstDifference a b ≡ place) × (pairs a b ≡ number)
+Says (turned w k) = turnedKey w ≡ k
+Says (fits a b answer) = oneRing a b ≡ answer
 Says (step n d kind limit line place trials) =
     walkPlaced rules (openWalk (openVerdict n d kind limit) rules n d kind limit) (100 ∷ []) ≡ placed (told (says line) trials) place ∷ []
 
@@ -59,11 +67,15 @@ starred =
     ∷ compared (0 ∷ 1 ∷ []) (0 ∷ 1 ∷ 0 ∷ []) Lower 3 2
     ∷ compared (zeros 19) (zeros 9 ++ ones 10) Lower 10 2
     ∷ compared (zeros 19) (zeros 18) Higher 19 4
+    ∷ turned (0 ∷ 0 ∷ 1 ∷ 1 ∷ 0 ∷ 1 ∷ []) (0 ∷ 0 ∷ 1 ∷ 0 ∷ 1 ∷ 1 ∷ [])
+    ∷ fits (0 ∷ 0 ∷ 1 ∷ 0 ∷ 1 ∷ 1 ∷ []) (1 ∷ 0 ∷ 1 ∷ 0 ∷ 0 ∷ 1 ∷ []) true
+    ∷ fits (0 ∷ 0 ∷ 1 ∷ 0 ∷ 1 ∷ 1 ∷ []) (0 ∷ 0 ∷ 0 ∷ 1 ∷ 1 ∷ 1 ∷ []) false
     ∷ step 8 3 1 (0 ∷ 0 ∷ 0 ∷ 1 ∷ 1 ∷ 0 ∷ 0 ∷ 0 ∷ []) (ring (0 ∷ 0 ∷ 0 ∷ 1 ∷ 0 ∷ 1 ∷ 0 ∷ 1 ∷ [])) 5 4
     ∷ step 8 3 1 (0 ∷ 0 ∷ 1 ∷ 0 ∷ 0 ∷ 1 ∷ 0 ∷ 0 ∷ []) (ring (0 ∷ 0 ∷ 0 ∷ 1 ∷ 1 ∷ 0 ∷ 0 ∷ 1 ∷ [])) 3 7
     ∷ step 8 3 1 (0 ∷ 0 ∷ 0 ∷ 0 ∷ 0 ∷ 1 ∷ 1 ∷ 0 ∷ []) none 0 2
     ∷ step 4 2 2 (0 ∷ 1 ∷ 0 ∷ 1 ∷ []) (ring (0 ∷ 0 ∷ 1 ∷ 1 ∷ [])) 2 3
     ∷ step 2 0 2 (1 ∷ 1 ∷ []) none 0 3
     ∷ step 1 0 2 (0 ∷ []) (ring (0 ∷ [])) 0 0
+    ∷ step 6 3 3 (0 ∷ 0 ∷ 1 ∷ 1 ∷ 0 ∷ 1 ∷ []) (ring (0 ∷ 0 ∷ 1 ∷ 0 ∷ 1 ∷ 1 ∷ [])) 4 3
     ∷ pitches (0 ∷ 0 ∷ 1 ∷ 0 ∷ 0 ∷ 1 ∷ 0 ∷ 1 ∷ []) (3 ∷ 3 ∷ 2 ∷ [])
     ∷ []

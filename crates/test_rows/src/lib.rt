@@ -130,6 +130,23 @@ pub fn symbol(row: &[u8; refusal::MOST_STATIONS], n: usize, j: usize, k: usize) 
     row[place]
 }
 
+// The row of n symbols that repeats the first p symbols of a row.
+pub fn repeated(
+    row: &[u8; refusal::MOST_STATIONS],
+    p: usize,
+    n: usize,
+) -> [u8; refusal::MOST_STATIONS] {
+    let mut longer = [0u8; refusal::MOST_STATIONS];
+    let mut i: usize = 0;
+    while i < refusal::MOST_STATIONS {
+        if i < n {
+            longer[i] = symbol(row, p, 0, i);
+        }
+        i += 1;
+    }
+    longer
+}
+
 // Turn j of a row against turn i of another, place by place: 0 lower, 1 the same, 2 higher.
 pub fn order(
     row: &[u8; refusal::MOST_STATIONS],

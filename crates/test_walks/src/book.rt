@@ -63,6 +63,51 @@ fn class(n: usize, half: usize, x: usize) -> u8
     class
 }
 
+// The row read from its last place to its first.
+fn reversed(n: usize, half: usize, x: usize) -> usize
+    requires { ⌜ half ≤ 8192 ⌝ }
+    requires { ⌜ x < 2 * half ⌝ }
+    ensures { λ r. ⌜ r < 2 * half ⌝ }
+{
+    let mut back: usize = 0;
+    let mut rest = x;
+    let mut i: usize = 0;
+    while i < n {
+        back = (2 * back + rest % 2) % (2 * half);
+        rest /= 2;
+        i += 1;
+    }
+    back
+}
+
+// Whether the row is at or below all turns of its reverse.
+fn is_lowest_turned(n: usize, half: usize, x: usize) -> bool
+    requires { ⌜ half ≤ 8192 ⌝ }
+    requires { ⌜ x < 2 * half ⌝ }
+{
+    let mut y = reversed(n, half, x);
+    let mut j: usize = 0;
+    while j < n {
+        if y < x {
+            return false;
+        }
+        y = turned(half, y);
+        j += 1;
+    }
+    true
+}
+
+// Whether a shelved row is of a kind.
+fn is_of_kind(n: usize, half: usize, kind: u8, x: usize) -> bool
+    requires { ⌜ half ≤ 8192 ⌝ }
+    requires { ⌜ x < 2 * half ⌝ }
+{
+    if kind == 3 {
+        return is_lowest_turned(n, half, x);
+    }
+    kind <= class(n, half, x)
+}
+
 // The last symbol of a line isn't counted.
 fn is_counted(rest: usize, i: usize, line: bool) -> bool {
     if rest % 2 == 0 {
@@ -161,7 +206,7 @@ fn after(n: usize, half: usize, d: usize, kind: u8, x: usize, line: bool) -> Boo
         owed += price(n, number, y, is_line);
         number = y;
         is_line = true;
-        if kind <= class(n, half, number) {
+        if is_of_kind(n, half, kind, number) {
             return Book {
                 number,
                 kept: x,
@@ -192,7 +237,7 @@ pub fn opened(n: usize, half: usize, d: usize, kind: u8, limit: usize) -> Book
     if !is_shelved(n, half, d, limit) {
         return after(n, half, d, kind, limit, false);
     }
-    if kind <= class(n, half, limit) {
+    if is_of_kind(n, half, kind, limit) {
         return Book {
             number: limit,
             kept: limit,

@@ -8,7 +8,7 @@ use lib.ListN.{take}
 use lib.Seq.{length-take-le}
 use borrow.Author.Tests.{le-leb, leb-true}
 use Rattle.density.proofs.Binary.{binary-test, test-binary}
-use Rattle.density.proofs.KindTests.{is-one, one-of}
+use Rattle.density.proofs.KindTests.{kinds-known, known-kind}
 use Rattle.density.proofs.Members.{member-test, member→, test-member, →member}
 use Rattle.density.proofs.PaddedRows.{facts-padded, padded-facts, padded→, →padded}
 use Rattle.density.specs.Necklaces.{begins, isNecklaceOf, ofKind}
@@ -58,7 +58,7 @@ fit-means w long = (facts, passes)
           some = s .some;
           most = s .most;
           holes = s .dense;
-          kinds = one-of (w .kind) (s .kinds);
+          kinds = kinds-known (w .kind) (s .kinds);
           rows = padded-facts (w .n) (w .row) (→padded (w .n) (w .row) (binary-test (s .binary)) (s .clean));
           keeps = padded-facts (w .n) (w .kept) (s .keeps);
           place = at→ w s (w .at) (fit-at f);
@@ -71,7 +71,7 @@ fit-means w long = (facts, passes)
           some = r .some;
           most = r .most;
           dense = r .holes;
-          kinds = is-one (w .kind) (r .kinds);
+          kinds = known-kind (w .kind) (r .kinds);
           long = long;
           binary = test-binary 1 (rowOf w) (omega arith) (p .0);
           clean = p .1;

@@ -2,25 +2,26 @@
 use mathlib.Core.Bool.{_&&_}
 use mathlib.Core.List.{List, [], append-cancel-left, append-nil, _++_, _∷_}
 use mathlib.Core.Logic.{inl, inr, _↔_, _⊎_}
-use mathlib.Core.Path.{ap, subst, sym, _∙_, _≡_}
-use Prim.Native.Nat.{ℕ, _*_, _-_}
+use mathlib.Core.Path.{ap, refl, subst, sym, _∙_, _≡_}
+use Prim.Native.Nat.{suc, zero, ℕ, _*_, _-_, _<_, _^_, _≤_}
 use native.Mathlib.Omega.{arith}
 use lib.ListN.{length, length-append}
 use Rattle.density.proofs.Binary.{binary-within}
 use Rattle.density.proofs.DrawerVerdicts.{drawer-chain}
-use Rattle.density.proofs.KindTests.{one-of}
+use Rattle.density.proofs.KindTests.{kinds-known}
 use Rattle.density.proofs.RowCounts.{few-rings}
 use Rattle.density.proofs.Wanted.{first-ring, next-ring, rings-falling}
 use Rattle.density.specs.Necklaces.{ofKind}
+use Rattle.listing.proofs.AllTrials.{all-prices, each-few, told-all}
 use Rattle.listing.proofs.ListingLeft.{Remaining, ended→, left-few, left→said, named-wanted, none→, owed-few, remaining, ring→, said→left, spent→, to-come, →ended, →none, →paid, →ring, →spent}
 use Rattle.listing.proofs.PlacesNamed.{ring-places}
 use Rattle.listing.proofs.Prices.{raise-zero}
 use Rattle.listing.proofs.Strikes.{Closed, listing-closed}
 use Rattle.listing.proofs.Totalled.{listing-totals, starts-alike}
-use Rattle.listing.proofs.TrialBounds.{kind-1-prices, prices, starts-few}
-use Rattle.listing.specs.Listing.{Listing, book, listingAnswers, listingStep, over}
+use Rattle.listing.proofs.TrialBounds.{kind-1-prices, kind-2-prices, starts-few}
+use Rattle.listing.specs.Listing.{Listing, book, listingAnswers, listingStep, over, refused}
 use Rattle.listing.specs.Places.{leaving, ringPlaces}
-use Rattle.listing.specs.Totals.{AtMost, SaysNone, listingLeft, named, ringsOf}
+use Rattle.listing.specs.Totals.{AtMost, SaysNone, allTrials, listingLeft, named, ringsOf}
 use Rattle.refusal.proofs.Conditions.{accepted-exactly, chain-first, equal-tells, passed, test}
 use Rattle.refusal.specs.Conditions.{NoStations, NoneHolds}
 use Rattle.refusal.specs.Verdicts.{accepted}
@@ -28,7 +29,7 @@ use Rattle.walk.proofs.Demand.{Admitted, accepted-opening, answers-agre
 use Rattle.walk.proofs.Invariant.{Fit}
 use Rattle.walk.proofs.Places.{answers-placed}
 use Rattle.walk.proofs.StepAgrees.{step-agrees}
-use Rattle.walk.specs.Claims.{Ceiling, Demand3, Demand3Places, EndedNext, FirstRing, Kind1Trials, NamedAll, NamedFalling, NeverSpent, NeverUnfit, NextRing, NoneNext, OpenAccepts, OpenRefusals, Opening, RingNext, RingPlaces, SpentNext, TakenAlike, TakenListed, Trials, TrialsNext, answers, bookOf, given, next, opened, wantedOf}
+use Rattle.walk.specs.Claims.{AllTrials, Ceiling, Demand3, Demand3Places, EndedNext, FirstRing, Kind1Trials, Kind2Trials, NamedAll, NamedFalling, NeverSpent, NeverSpentInAny, NeverUnfit, NextRing, NoneNext, OpenAccepts, OpenRefusals, Opening, RingNext, RingPlaces, SpentNext, TakenAlike, TakenListed, TrialsNext, answers, bookOf, given, next, opened, wantedOf}
 use Rattle.walk.specs.Moves.{keptOf, rules}
 use Rattle.walk.specs.Opening.{NoCondition, NoKind, fresh, openConditions, openVerdict, openWalk}
 use Rattle.walk.specs.Step.{handed}
@@ -49,15 +50,15 @@ open-accepts n d kind limit = (admits, λ c. accepted-exactly (openConditions n 
     admits : openVerdict n d kind limit ≡ accepted → NoCondition n d kind limit
     admits e =
         let a = accepted-opening n d kind limit e in
-        record { some = a .stations; most = a .most; holes = a .dense; kinds = one-of kind (a .kinds); long = a .long; symbols = binary-within (a .binary) }
+        record { some = a .stations; most = a .most; holes = a .dense; kinds = kinds-known kind (a .kinds); long = a .long; symbols = binary-within (a .binary) }
 
     stations : NoCondition n d kind limit → NoStations n → ⊥
     stations c (inl z) = omega (arith, c .some)
     stations c (inr h) = omega (arith, c .most)
 
-    kinds : (kind ≡ 1) ⊎ (kind ≡ 2) → NoKind kind → ⊥
-    kinds (inl e) h = h .0 e
-    kinds (inr e) h = h .1 e
+    kinds : (1 ≤ kind) × (kind ≤ 3) → NoKind kind → ⊥
+    kinds k (inl z) = omega (arith, k .0)
+    kinds k (inr h) = omega (arith, k .1)
 
     none-holds : NoCondition n d kind limit → NoneHolds (openConditions n d kind limit)
     none-holds c = (stations c, (λ h. omega (arith, c .holes), (kinds (c .kinds), (λ h. h (c .long), (λ o. omega (arith, o .here, c .symbols (o .before) (o .inside)), tt)))))
@@ -183,19 +184,43 @@ taken-listed o steps = rw (demand-3 o steps) (rw raise-zero at (listing-totals s
 pub taken-alike : TakenAlike
 taken-alike o steps others = starts-alike (taken-listed o steps) (taken-listed o others)
 
+module _ (o : Opening) where
+  of-kind : {b : ℕ} (k : ℕ) → o .kind ≡ k → AtMost b (book (o .n) (o .d) k (o .limit)) → AtMost b (bookOf o)
+  of-kind {b} k e m = subst (λ k. AtMost b (book (o .n) (o .d) k (o .limit))) (sym e) m
+
+  kind-1-book : o .kind ≡ 1 → AtMost (2 * o .n - 1) (bookOf o)
+  kind-1-book e = of-kind 1 e (kind-1-prices (o .n) (o .d) (o .limit) (admitted o .stations) (admitted o .long))
+
+  kind-2-book : o .kind ≡ 2 → AtMost (4 * o .n - 2) (bookOf o)
+  kind-2-book e = of-kind 2 e (kind-2-prices (o .n) (o .d) (o .limit) (admitted o .stations) (admitted o .long) (binary-within (admitted o .binary)))
+
+  whole-book : allTrials (bookOf o) < 2 ^ o .n
+  whole-book = all-prices (o .n) (o .d) (o .kind) (o .limit) (admitted o .stations) (admitted o .long) (binary-within (admitted o .binary))
+
+  -- where each line costs at most b, a step allowed b is not refused as spent
+  not-spent : {b : ℕ} → AtMost b (bookOf o) → (steps : List ℕ) (a : ℕ) → b ≤ a → next o steps a .said ≡ refused 21 → ⊥
+  not-spent m steps a h e = omega (arith, owed-few (left-few steps m), spent-next o steps a .0 e)
+
 pub kind-1-trials : Kind1Trials
-kind-1-trials o steps e =
-    starts-few (taken-listed o steps)
-    (subst (λ k. AtMost (2 * o .n - 1) (book (o .n) (o .d) k (o .limit))) (sym e) (kind-1-prices (o .n) (o .d) (o .limit) (admitted o .stations) (admitted o .long)))
+kind-1-trials o steps e = starts-few (taken-listed o steps) (kind-1-book o e)
 
-book-prices : (o : Opening) → AtMost (4 * o .n - 2) (bookOf o)
-book-prices o = prices (o .n) (o .d) (o .kind) (o .limit) (admitted o .kinds) (admitted o .stations) (admitted o .long) (binary-within (admitted o .binary))
+pub kind-2-trials : Kind2Trials
+kind-2-trials o steps e = starts-few (taken-listed o steps) (kind-2-book o e)
 
-pub trials : Trials
-trials o steps = starts-few (taken-listed o steps) (book-prices o)
+pub all-trials : AllTrials
+all-trials o steps = rw (demand-3 o steps) (omega (arith, whole-book o, told-all steps (bookOf o)))
 
 pub never-spent : NeverSpent
-never-spent o steps a h e =
-    let few = owed-few (left-few steps (book-prices o)) in
-    let more = spent-next o steps a .0 e in
-    omega arith
+never-spent o steps a k h = go (o .kind) refl
+  where
+    kinds : (1 ≤ o .kind) × (o .kind ≤ 3)
+    kinds = kinds-known (o .kind) (admitted o .kinds)
+
+    go : (k : ℕ) → o .kind ≡ k → next o steps a .said ≡ refused 21 → ⊥
+    go zero e = absurd (omega (arith, kinds .0))
+    go (suc zero) e = not-spent o (kind-1-book o e) steps a (omega (arith, admitted o .stations))
+    go (suc (suc zero)) e = not-spent o (kind-2-book o e) steps a h
+    go (suc (suc (suc i))) e = absurd (k (omega (arith, kinds .1)))
+
+pub never-spent-in-any : NeverSpentInAny
+never-spent-in-any o steps a h = not-spent o (each-few {b = a} (bookOf o) (omega (arith, whole-book o))) steps a (omega arith)

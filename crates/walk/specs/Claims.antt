@@ -3,7 +3,7 @@ use mathlib.Core.Bool.{false, true, _&&_}
 use mathlib.Core.List.{List, _++_, _∷_}
 use mathlib.Core.Logic.{_↔_, _⊎_}
 use mathlib.Core.Path.{_≡_}
-use Prim.Native.Nat.{ℕ, _*_, _-_, _<_, _≤_}
+use Prim.Native.Nat.{ℕ, _*_, _+_, _-_, _<_, _^_, _≤_}
 use lib.ListN.{length}
 use Rattle.density.specs.Choose.{choose}
 use Rattle.density.specs.Necklaces.{necklaces, ofKind, wanted}
@@ -16,7 +16,7 @@ use Rattle.walk.specs.Moves.{keptOf, moveAt, rowOf, rules, trial}
 use Rattle.walk.specs.Opening.{NoCondition, openConditions, openVerdict, openWalk}
 use Rattle.walk.specs.Step.{handed, stepDue, stepOf, toldBy, trialsNeeded, walkAnswers, walkPlaced}
 use Rattle.walk.specs.ToCome.{stands}
-use Rattle.listing.specs.Totals.{AtMost, SaysNone, Starts, listingLeft, named, owed, totals}
+use Rattle.listing.specs.Totals.{AtMost, SaysNone, Starts, listingLeft, named, owed, totals, trialsTold}
 use Rattle.walk.specs.declared.Answer.{Answer}
 use Rattle.walk.specs.declared.Answer.the-variants.{None, Refused, Ring}
 use Rattle.walk.specs.declared.Standing.the-variants.{Ended}
@@ -222,10 +222,18 @@ TakenAlike = (o : Opening) (steps others : List ℕ) → Starts (taken o steps) 
 abbrev pub Kind1Trials : Type 0
 Kind1Trials = (o : Opening) (steps : List ℕ) → o .kind ≡ 1 → AtMost (2 * o .n - 1) (taken o steps)
 
--- at most 4 n - 2 in each kind
-abbrev pub Trials : Type 0
-Trials = (o : Opening) (steps : List ℕ) → AtMost (4 * o .n - 2) (taken o steps)
+-- at most 4 n - 2 in kind 2
+abbrev pub Kind2Trials : Type 0
+Kind2Trials = (o : Opening) (steps : List ℕ) → o .kind ≡ 2 → AtMost (4 * o .n - 2) (taken o steps)
 
--- a step allowed so many is not refused as spent
+-- in every kind, all trials of a walk, whatever the allowances, are fewer than 2 ^ n
+abbrev pub AllTrials : Type 0
+AllTrials = (o : Opening) (steps : List ℕ) → trialsTold (answers o steps) < 2 ^ o .n
+
+-- a step allowed so many is not refused as spent: 4 n - 2, but in kind 3
 abbrev pub NeverSpent : Type 0
-NeverSpent = (o : Opening) (steps : List ℕ) (a : ℕ) → 4 * o .n - 2 ≤ a → next o steps a .said ≡ refused 21 → ⊥
+NeverSpent = (o : Opening) (steps : List ℕ) (a : ℕ) → (o .kind ≡ 3 → ⊥) → 4 * o .n - 2 ≤ a → next o steps a .said ≡ refused 21 → ⊥
+
+-- and 2 ^ n - 1 in every kind
+abbrev pub NeverSpentInAny : Type 0
+NeverSpentInAny = (o : Opening) (steps : List ℕ) (a : ℕ) → 2 ^ o .n ≤ a + 1 → next o steps a .said ≡ refused 21 → ⊥

@@ -1,7 +1,6 @@
 -- "Unfit (22)": which records are fit.
 use mathlib.Core.Bool.{Bool, true, _&&_}
 use mathlib.Core.List.{List·Memᴰ}
-use mathlib.Core.Logic.{_⊎_}
 use mathlib.Core.Path.{_≡_}
 use Prim.Native.Nat.{ℕ, _-_, _≤_}
 use lib.ListN.{getD, take}
@@ -48,7 +47,7 @@ pub record FitRecord (w : Walk) : Type 0 where
   pub some : 1 ≤ w .n
   pub most : w .n ≤ mostStations
   pub holes : w .d ≤ w .n
-  pub kinds : (w .kind ≡ 1) ⊎ (w .kind ≡ 2)
+  pub kinds : (1 ≤ w .kind) × (w .kind ≤ 3)
   pub rows : PaddedRow (w .n) (w .row)
   pub keeps : PaddedRow (w .n) (w .kept)
   pub place : FitAt (w .at) w

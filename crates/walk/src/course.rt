@@ -49,7 +49,7 @@ impl Walk {
                 at: Standing::Up(beyond),
                 ..self
             };
-            return walk.found(known, left);
+            return walk.found(&row[..n], known, left);
         }
         let before = known.shorter(prefixes, &row[..n]);
         let walk = Walk {
@@ -177,18 +177,17 @@ impl Walk {
             at: Standing::Up(p),
             ..self
         };
-        walk.found(known, left)
+        walk.found(&row[..n], known, left)
     }
 
-    // A row is found: the answer, if it is of the kind.
-    fn found(self, known: Known, left: u64) -> Reached
-        requires { ⌜ (self .at ≡ Standing.Up (self .n + 1)) × Good rules self × Knows (rowOf self) known ⌝ }
+    // A row is found: the answer, if it is of the kind. Its n symbols are lent, and known.
+    fn found(self, a: &[u8], known: Known, left: u64) -> Reached
+        requires { ⌜ (self .at ≡ Standing.Up (self .n + 1)) × Good rules self × (now a ≡ rowOf self) × Knows (rowOf self) known ⌝ }
         ensures { λ r. ⌜ Resumes self left r ⌝ }
     {
-        let n = self.n;
         let kind = self.kind;
         let row = self.row;
-        if known.is_of_kind(kind, &row[..n]) {
+        if known.is_of_kind(kind, a) {
             return Reached {
                 row,
                 at: Standing::Given,

@@ -8,7 +8,7 @@ ghost use mathlib.Core.Path.{_≡_};
 ghost use Prim.Native.Nat.{_-_};
 ghost use lib.ListN.{take};
 ghost use Rattle.prefix.specs.InnerCarried.{Knows};
-ghost use Rattle.walk.specs.Moves.{rules};
+ghost use Rattle.walk.specs.Moves.{rowOf, rules};
 ghost use Rattle.walk.specs.Fit.{fitSizes, fitAt};
 ghost use Rattle.walk.specs.Step.{stepDue, stepNumbers, stepOf, stepped};
 ghost use Rattle.walk.specs.Opening.{openOutcome, openVerdict, openWalk, refusedWalk};
@@ -144,9 +144,9 @@ impl Walk {
         refusal::are_stations(n) && d <= n && density::kinds::is_kind(kind)
     }
 
-    // The rows fit where the walk stands. The symbols before that place are known; `kept` is the row kept.
-    fn fit_at(self, kept: &[u8], known: Known) -> bool
-        requires { ⌜ Fitting self × Knows (take (before (self .at) (self .n)) (self .row)) known × (now kept ≡ self .kept) ⌝ }
+    // The rows fit where the walk stands. The symbols before that place are known; `a` is the row's n symbols, `kept` the row kept.
+    fn fit_at(self, a: &[u8], kept: &[u8], known: Known) -> bool
+        requires { ⌜ Fitting self × Knows (take (before (self .at) (self .n)) (self .row)) known × (now a ≡ rowOf self) × (now kept ≡ self .kept) ⌝ }
         ensures { λ r. ⌜ r ≡ fitAt rules (self .at) self ⌝ }
     {
         let n = self.n;
@@ -158,9 +158,7 @@ impl Walk {
             Standing::Limit => true,
             Standing::Down(p) => 1 <= p && p <= n,
             Standing::Up(p) => 2 <= p && p <= n && known.ask(n, d, row, p - 1),
-            Standing::Given => {
-                known.is_necklace_of(d, &row[..n]) && known.is_of_kind(kind, &row[..n])
-            }
+            Standing::Given => known.is_necklace_of(d, a) && known.is_of_kind(kind, a),
             Standing::Ended => {
                 density::rows::highest(&row) == 0 && density::rows::highest(kept) == 0
             }
@@ -213,7 +211,7 @@ impl Walk {
         let mut prefixes = prefix::carried::prefixes_of(&row[..n]);
         let m = self.before();
         let mut known = Known::read(&prefixes, &row[..m]);
-        if !self.fit_at(&kept, known) {
+        if !self.fit_at(&row[..n], &kept, known) {
             return self.unfit();
         }
         loop {

@@ -25,13 +25,13 @@ fn standing_of(number: usize) -> Standing {
     }
 }
 
-// The records of n stations, numbered: kinds 0 to 3, up to n + 1 holes, all rows, all standings with places up to n + 1. The row kept is
+// The records of n stations, numbered: kinds 0 to 4, up to n + 1 holes, all rows, all standings with places up to n + 1. The row kept is
 // one further at each number of holes, and at each round through all of these, so in as many rounds as rows each record has each row kept.
 fn record(n: usize, rows: usize, index: usize) -> Walk
     requires { ⌜ n ≤ mostStations ⌝ }
     requires { ⌜ 0 < rows ⌝ }
 {
-    let kinds = index / 4;
+    let kinds = index / 5;
     let densities = kinds / (n + 2);
     let row = test_rows::row_of_number(n, densities % rows);
     let standings = densities / rows;
@@ -41,7 +41,7 @@ fn record(n: usize, rows: usize, index: usize) -> Walk
     Walk {
         n,
         d: kinds % (n + 2),
-        kind: (index % 4) as u8,
+        kind: (index % 5) as u8,
         row,
         at,
         kept,
@@ -78,7 +78,7 @@ fn show_steps(n: usize, rows: usize, records: usize, allowance: usize)
     outcomes::print_outcomes(step_all(n, rows, records, allowance as u64));
 }
 
-// n stations have 4 (n + 2) (2 n + 7) records for each row and each row kept.
+// n stations have 5 (n + 2) (2 n + 7) records for each row and each row kept.
 fn show_all(n: usize, rows: usize, records: usize)
     requires { ⌜ n ≤ mostStations ⌝ }
     requires { ⌜ 0 < rows ⌝ }
@@ -93,11 +93,11 @@ fn show_all(n: usize, rows: usize, records: usize)
 
 pub fn show_records() {
     // each with every row kept
-    show_all(1, 2, 432);
-    show_all(2, 4, 2816);
-    show_all(3, 8, 16640);
-    show_all(4, 16, 92160);
+    show_all(1, 2, 540);
+    show_all(2, 4, 3520);
+    show_all(3, 8, 20800);
+    show_all(4, 16, 115200);
     // each with one row kept
-    show_all(5, 32, 15232);
-    show_all(6, 64, 38912);
+    show_all(5, 32, 19040);
+    show_all(6, 64, 48640);
 }

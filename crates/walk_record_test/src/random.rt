@@ -83,7 +83,7 @@ fn holes(index: usize, n: usize, row: &[u8; refusal::MOST_STATIONS]) -> usize
     test_rows::count(row, 1)
 }
 
-// 1 or 2, now and then 0 or 3.
+// 1 to 3, now and then 0 or 4.
 fn kind(index: usize) -> u8
     requires { ⌜ index < 1000000 ⌝ }
 {
@@ -92,9 +92,9 @@ fn kind(index: usize) -> u8
         return 0;
     }
     if x == 1 {
-        return 3;
+        return 4;
     }
-    if x % 2 == 0 { 1 } else { 2 }
+    (1 + x % 3) as u8
 }
 
 // Any standing, with a place up to one above the stations.

@@ -112,7 +112,7 @@ pub fn show_single() {
           holes above: 3 4 1 Limit 0 001\n\
           most holes: 3 most 1 Limit 0 001\n\
           kind 0: 3 1 0 Limit 0 001\n\
-          kind 3: 3 1 3 Given 0 001\n\
+          kind 4: 3 1 4 Given 0 001\n\
           kind 255: 3 1 255 Ended 0 000\n\
           byte 2 first: 3 1 1 Limit 0 201\n\
           byte 2 last: 3 1 1 Down 1 002\n\
@@ -132,6 +132,7 @@ pub fn show_single() {
           Given, other holes: 8 3 1 Given 0 00001111\n\
           Given, not shelved: 8 3 1 Given 0 00000110\n\
           Given, with symmetry: 4 2 2 Given 0 0101\n\
+          Given, lower turned over: 6 3 3 Given 0 001101\n\
           Ended, last symbol 1: 3 1 1 Ended 0 001\n\
           Ended, byte 1 after: 3 1 1 Ended 0 0001\n\
           kept byte 2 first: 3 1 1 Limit 0 001 201\n\
@@ -148,6 +149,10 @@ pub fn show_single() {
           Up 4 after 001: 8 3 1 Up 4 00100000\n\
           Up 4, symbols to be written over: 8 3 1 Up 4 00111111\n\
           Given, of kind 1: 4 2 1 Given 0 0101\n\
+          Given, of kind 3: 6 3 3 Given 0 001011\n\
+          Given, of kind 3, its own reverse: 6 3 3 Given 0 000111\n\
+          Given, of kind 3, with symmetry: 4 2 3 Given 0 0101\n\
+          Limit, lower turned over: 6 3 3 Limit 0 001101\n\
           Given, without holes: 3 0 1 Given 0 000\n\
           Limit, other holes: 8 3 1 Limit 0 11111111\n\
           Ended: 3 1 1 Ended 0 000\n\
@@ -162,6 +167,7 @@ pub fn show_single() {
           kept before none: 8 3 1 Limit 0 00000110 10101010\n\
           kept before none, without holes: 3 0 1 Given 0 000 111\n\
           kept symmetric, of kind 2: 4 2 2 Limit 0 0101 0101\n\
+          kept lower turned over, of kind 3: 6 3 3 Limit 0 001101 001101\n\
           kept of 64, other last: 64 64 1 Limit 0 1111111111111111111111111111111111111111111111111111111111111111 \
             1111111111111111111111111111111111111111111111111111111111111110\n",
     );

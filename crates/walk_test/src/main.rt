@@ -174,7 +174,18 @@ fn compare_limits(
     counts
 }
 
-// All drawers of n stations, of both kinds.
+// The same of each kind.
+fn compare_kinds(n: usize, d: usize, first: usize, skipped: usize, pattern: usize) -> Counts
+    requires { ⌜ n ≤ 14 ⌝ }
+    requires { ⌜ skipped < 1000 ⌝ }
+{
+    let one = compare_limits(n, d, 1, first, skipped, pattern);
+    let two = compare_limits(n, d, 2, first, skipped, pattern);
+    let three = compare_limits(n, d, 3, first, skipped, pattern);
+    sum(sum(one, two), three)
+}
+
+// All drawers of n stations.
 fn compare_drawers(n: usize, first: usize, skipped: usize, pattern: usize) -> Counts
     requires { ⌜ n ≤ 14 ⌝ }
     requires { ⌜ skipped < 1000 ⌝ }
@@ -182,8 +193,7 @@ fn compare_drawers(n: usize, first: usize, skipped: usize, pattern: usize) -> Co
     let mut counts = nothing();
     let mut d: usize = 0;
     while d <= n {
-        counts = sum(counts, compare_limits(n, d, 1, first, skipped, pattern));
-        counts = sum(counts, compare_limits(n, d, 2, first, skipped, pattern));
+        counts = sum(counts, compare_kinds(n, d, first, skipped, pattern));
         d += 1;
     }
     counts
@@ -264,6 +274,12 @@ fn main() {
           2 0 2 11\n\
           1 0 2 0\n\
           1 1 2 1\n\
+          6 3 3 111111\n\
+          6 3 3 001101\n\
+          6 3 3 001011\n\
+          12 6 3 001101011010\n\
+          1 0 3 1\n\
+          1 1 3 1\n\
           8 0 1 00000000\n\
           64 0 1 1111111111111111111111111111111111111111111111111111111111111111\n\
           64 1 2 1111111111111111111111111111111111111111111111111111111111111111\n\
@@ -271,15 +287,17 @@ fn main() {
           64 63 1 1000000000000000000000000000000000000000000000000000000000000000\n\
           64 64 1 1111111111111111111111111111111111111111111111111111111111111111\n\
           64 64 2 1111111111111111111111111111111111111111111111111111111111111111\n\
+          64 2 3 0000000000000000000000000000001000000000000000000000000000000001\n\
+          64 64 3 1111111111111111111111111111111111111111111111111111111111111111\n\
           0 0 1 \n\
           65 0 1 \n\
           65 0 1 00000000000000000000000000000000000000000000000000000000000000000\n\
-          0 1 3 2\n\
-          65 66 3 2\n\
+          0 1 4 2\n\
+          65 66 4 2\n\
           4 5 1 0000\n\
-          4 5 3 00002\n\
+          4 5 4 00002\n\
           4 3 0 1111\n\
-          4 3 3 1111\n\
+          4 3 4 1111\n\
           4 3 255 00022\n\
           4 3 1 111\n\
           4 3 1 11111\n\
@@ -287,6 +305,6 @@ fn main() {
           4 3 2 11112\n\
           4 3 1 0200\n\
           4 3 2 0232\n\
-          4 3 1 1112\n",
+          4 3 3 1112\n",
     );
 }

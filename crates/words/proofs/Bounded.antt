@@ -1,11 +1,12 @@
 -- Tests over the numbers below a bound, and the first number that passes one.
-use mathlib.Core.Bool.{Bool, and-eq-true-iff, cond, false, true, true≢false, _&&_}
+use mathlib.Core.Bool.{Bool, and-eq-true-iff, cond, false, false≢true, or-true, true, true≢false, _&&_, _||_}
 use mathlib.Core.Logic.{inl, inr, _⊎_}
-use mathlib.Core.Path.{refl, _≡_}
+use mathlib.Core.Path.{ap, refl, sym, _∙_, _≡_}
 use Prim.Native.Nat.{pred, suc, zero, ℕ, _+_, _<_, _≤_}
 use native.Mathlib.Nat.{eq-or-lt-of-le, le-of-suc-le-suc, le-refl, not-suc-le-zero}
 use native.Mathlib.Omega.{arith}
-use Rattle.words.specs.Tests.{allBelow, firstFrom}
+use Rattle.words.proofs.Booleans.{or→}
+use Rattle.words.specs.Tests.{allBelow, firstFrom, someBelow}
 
 pub pred-size : (n : ℕ) → 0 < n → 1 + pred n ≡ n
 pred-size zero h = absurd (omega arith)
@@ -34,6 +35,25 @@ fails-at (suc n) f e = go (f n) refl (fails-at n f) e
     go : (b : Bool) → f n ≡ b → (allBelow n f ≡ false → (j : ℕ) × (j < n) × (f j ≡ false)) → (b && allBelow n f) ≡ false → (j : ℕ) × (j < suc n) × (f j ≡ false)
     go true q ih e = let r = ih e in (r .0, omega (arith, r .1), r .2)
     go false q ih e = (n, le-refl (suc n), q)
+
+-- a test that holds somewhere
+pub someBelow→ : (n : ℕ) (f : ℕ → Bool) → someBelow n f ≡ true → (j : ℕ) × (j < n) × (f j ≡ true)
+unfolding someBelow
+someBelow→ zero f e = absurd (false≢true e)
+someBelow→ (suc n) f e = go (or→ (f n) (someBelow n f) e) (someBelow→ n f)
+  where
+    go : (f n ≡ true) ⊎ (someBelow n f ≡ true) → (someBelow n f ≡ true → (j : ℕ) × (j < n) × (f j ≡ true)) → (j : ℕ) × (j < suc n) × (f j ≡ true)
+    go (inl q) ih = (n, le-refl (suc n), q)
+    go (inr q) ih = let r = ih q in (r .0, omega (arith, r .1), r .2)
+
+pub →someBelow : (n : ℕ) (f : ℕ → Bool) (j : ℕ) → j < n → f j ≡ true → someBelow n f ≡ true
+unfolding someBelow
+→someBelow zero f j h e = absurd (omega arith)
+→someBelow (suc n) f j h e = go (eq-or-lt-of-le (le-of-suc-le-suc h)) (→someBelow n f j)
+  where
+    go : (j ≡ n) ⊎ (j < n) → (j < n → f j ≡ true → someBelow n f ≡ true) → (f n || someBelow n f) ≡ true
+    go (inl q) ih = rw (ap f (sym q) ∙ e)
+    go (inr q) ih = rw (ih q e) (or-true (f n))
 
 -- the first that passes: it is found wherever it stands
 pub first-is : (f k j : ℕ) (test : ℕ → Bool) → k ≤ j → j ≤ k + f → ((i : ℕ) → k ≤ i → i < j → test i ≡ false) → ((j < k + f) → test j ≡ true) → firstFrom f k test ≡ j

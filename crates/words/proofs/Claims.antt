@@ -1,6 +1,6 @@
 -- The claims on rows hold.
 use mathlib.Core.Bool.{Bool, false, true}
-use mathlib.Core.List.{List, [], _∷_}
+use mathlib.Core.List.{List, [], reverse-reverse, _∷_}
 use mathlib.Core.Path.{refl, _≡_}
 use Prim.Native.Nat.{suc, zero, ℕ, _<_, _≤_}
 use native.Mathlib.Omega.{arith}
@@ -12,10 +12,13 @@ use Rattle.words.proofs.FirstPlaces.{first-tells}
 use Rattle.words.proofs.LeastRotation.{least-index, least-necklace, least-same, same-least}
 use Rattle.words.proofs.OrderTests.{→le}
 use Rattle.words.proofs.Periods.{period-of}
+use Rattle.words.proofs.Reversal.{oneRing→, rotation-reverse, →oneRing}
 use Rattle.words.proofs.Rotations.{→isNecklace}
+use Rattle.words.proofs.TurnedKey.{key-low, key-necklace, key-one-ring, key-ring, ring-key}
 use Rattle.words.proofs.Wrong.{other-decided, wrong-or-right}
-use Rattle.words.specs.Claims.{FirstOther, KeyShelved, LeastTurn, OneKey, PlaceOfFirst, Shelved, SmallestPeriod, SmallestTurn, WithoutSymmetry}
+use Rattle.words.specs.Claims.{FirstOther, KeyShelved, LeastTurn, LeastTurned, OneKey, OneRingExactly, OneTurnedKey, PlaceOfFirst, ReversedTwice, Shelved, SmallestPeriod, SmallestTurn, TurnedShelved, TurnsReversed, WithoutSymmetry}
 use Rattle.words.specs.Order.{le, lt}
+use Rattle.words.specs.Reversal.{turnedKey}
 use Rattle.words.specs.Rotation.{isLyndon, isNecklace, leastIndex, leastRotation, rotation}
 use Rattle.words.specs.Symbols.{firstWrong}
 use Rattle.words.specs.Tests.{allBelow}
@@ -56,6 +59,26 @@ key-shelved w h = →isNecklace (leastRotation w) (least-necklace w h)
 
 pub one-key : OneKey
 one-key v w h k = (same-least k h, least-same k)
+
+-- ---- turning over
+
+pub reversed-twice : ReversedTwice
+reversed-twice w = reverse-reverse w
+
+pub turns-reversed : TurnsReversed
+turns-reversed w j h = rotation-reverse w j h
+
+pub least-turned : LeastTurned
+least-turned w h = (key-ring w h, λ v r. →le (turnedKey w) v (key-low w h r))
+
+pub turned-shelved : TurnedShelved
+turned-shelved w h = →isNecklace (turnedKey w) (key-necklace w h)
+
+pub one-turned-key : OneTurnedKey
+one-turned-key v w h k = (key-one-ring k h, ring-key k)
+
+pub one-ring-exactly : OneRingExactly
+one-ring-exactly v w = (oneRing→ v w, →oneRing)
 
 -- ---- symbols
 

@@ -21,6 +21,9 @@ pub mod Root
 pub mod RotationAgain
 pub mod LeastRotation
 pub mod Periods
+-- turning over
+pub mod Reversal
+pub mod TurnedKey
 -- rows that begin a necklace: their period, one pass over them, what may follow a Lyndon word
 pub mod Prefixes
 pub mod ScanMeaning

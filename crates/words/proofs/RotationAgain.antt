@@ -33,6 +33,9 @@ module _ (w : List ℕ) (i j : ℕ) where
 
 -- ---- the rotations of a row
 
+pub rotation-self : (w : List ℕ) → 0 < length w → IsRotation w w
+rotation-self w h = record { by = 0; inside = h; is = sym (rotation-zero w) }
+
 -- the rotation of a rotation, with its number
 pub rotated : (w : List ℕ) (i j : ℕ) → i < length w → j < length w → IsRotation w (rotation i (rotation j w))
 rotated w i j hi hj = go (le-or (length w) (j + i))

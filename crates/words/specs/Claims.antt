@@ -1,13 +1,14 @@
 -- What document 01 claims of rows, over any alphabet.
 use mathlib.Core.Bool.{true}
-use mathlib.Core.List.{List}
+use mathlib.Core.List.{List, reverse}
 use mathlib.Core.Logic.{_↔_, _⊎_}
 use mathlib.Core.Path.{_≡_}
-use Prim.Native.Nat.{ℕ, suc, _+_, _*_, _/_, _%_, _≤_, _<_}
+use Prim.Native.Nat.{ℕ, suc, _+_, _-_, _*_, _/_, _%_, _≤_, _<_}
 use lib.ListN.{length, getD, take}
 use Rattle.words.specs.Difference.{firstDifference}
 use Rattle.words.specs.Order.{le, lt}
 use Rattle.words.specs.Pairs.{pairs, shorterLength}
+use Rattle.words.specs.Reversal.{SameRing, oneRing, turnedKey}
 use Rattle.words.specs.Rotation.{IsRotation, isLyndon, isNecklace, leastIndex, leastRotation, period, rotation}
 use Rattle.words.specs.Symbols.{Within, firstWrong}
 
@@ -44,6 +45,32 @@ KeyShelved = (w : List ℕ) → 0 < length w → isNecklace (leastRotation w) �
 -- one ring, one key: rows have the same key exactly when one is a turn of the other
 abbrev pub OneKey : Type 0
 OneKey = (v w : List ℕ) → 0 < length v → 0 < length w → (leastRotation v ≡ leastRotation w) ↔ IsRotation w v
+
+-- ---- turning over
+
+-- reversing twice gives the row back
+abbrev pub ReversedTwice : Type 0
+ReversedTwice = (w : List ℕ) → reverse (reverse w) ≡ w
+
+-- the turns of the reverse are the reverses of the turns
+abbrev pub TurnsReversed : Type 0
+TurnsReversed = (w : List ℕ) (j : ℕ) → j ≤ length w → rotation j (reverse w) ≡ reverse (rotation (length w - j) w)
+
+-- "The least of the n turns of a row and the n turns of its reverse": it is one of them, and none lies below it
+abbrev pub LeastTurned : Type 0
+LeastTurned = (w : List ℕ) → 0 < length w → SameRing w (turnedKey w) × ((v : List ℕ) → SameRing w v → le (turnedKey w) v ≡ true)
+
+-- it is shelved
+abbrev pub TurnedShelved : Type 0
+TurnedShelved = (w : List ℕ) → 0 < length w → isNecklace (turnedKey w) ≡ true
+
+-- one ring, one turned-over key: two rows have the same one exactly when one is a turn of the other or of its reverse
+abbrev pub OneTurnedKey : Type 0
+OneTurnedKey = (v w : List ℕ) → 0 < length v → 0 < length w → (turnedKey v ≡ turnedKey w) ↔ SameRing w v
+
+-- "One ring, turning over allowed, yes or no": yes exactly when one is a turn of the other or of its reverse
+abbrev pub OneRingExactly : Type 0
+OneRingExactly = (v w : List ℕ) → (oneRing v w ≡ true) ↔ SameRing v w
 
 -- ---- symbols
 

@@ -3,6 +3,7 @@ pub mod Order
 pub mod Tests
 pub mod Falling
 pub mod Rotation
+pub mod Reversal
 pub mod Symbols
 pub mod Difference
 pub mod Pairs

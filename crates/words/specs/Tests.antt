@@ -9,6 +9,11 @@ unfoldable pub allBelow : ℕ → (ℕ → Bool) → Bool
 allBelow zero test = true
 allBelow (suc n) test = test n && allBelow n test
 
+-- the test holds at some of 0, 1, .., n - 1
+unfoldable pub someBelow : ℕ → (ℕ → Bool) → Bool
+someBelow zero test = false
+someBelow (suc n) test = test n || someBelow n test
+
 -- the first of k, k + 1, .., k + f at which the test holds; where it holds at none of them, k + f
 unfoldable pub firstFrom : ℕ → ℕ → (ℕ → Bool) → ℕ
 firstFrom zero k test = k

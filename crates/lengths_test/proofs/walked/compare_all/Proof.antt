@@ -5,10 +5,10 @@ use Rattle.lengths_test.proofs.walked.compare_all.Statement.{statement}
 use Rattle.lengths_test.proofs.walked.compare_all.Tie as tie
 
 abbrev Inv-loop : tie.InvT-loop
-Inv-loop n₀ n = n ≤ 13
+Inv-loop n₀ n = n ≤ 15
 
 abbrev μ-loop : tie.MeasureT-loop
-μ-loop n₀ n = 13 - n
+μ-loop n₀ n = 15 - n
 
 pub compare-all-spec : {M : Type 1} → statement M
 compare-all-spec =
@@ -17,6 +17,7 @@ compare-all-spec =
     Inv-loop
     μ-loop
     (λ c. search needs)
+    (λ c κs. search needs)
     (λ c κs. search needs)
     (λ c κs. search needs)
     (λ c. search needs)

@@ -7,7 +7,7 @@ use Rattle.printing_test.proofs.drawers.numbered.Statement.{statement}
 use Rattle.printing_test.proofs.drawers.numbered.Tie as tie
 
 add-limit : tie.Need-add-limit
-add-limit c = omega (arith, mod-lt (c .before .before .args .index / 2) {m = c .limits-of .result} (omega arith))
+add-limit c = omega (arith, mod-lt (c .before .before .args .index / 3) {m = c .limits-of .result} (omega arith))
 
 pub numbered-spec : {M : Type 1} → statement M
 numbered-spec =

@@ -7,7 +7,7 @@ use Prim.Native.Nat.{ℕ, _+_, _-_, _<_, _≤_}
 use native.Mathlib.Nat.{pos-of-ne-zero}
 use native.Mathlib.Omega.{arith}
 use lib.ListN.{getD, length, length-set, set, take}
-use lib.Seq.{set-set}
+use lib.Seq.{length-take-le, set-set}
 use borrow.Author.Needs.{needs}
 use borrow.Author.Tests.{not-false, not-true}
 use Rattle.density.specs.Necklaces.{begins}
@@ -158,15 +158,21 @@ module _ (c : tie.After-loop Inv-loop μ-loop) where
   at-end : c .before .loop .p ≡ c .before .before .before .args .self .n + 1
   at-end = let v = c .before .loop .inv in omega (arith, place v .1, c .loop-test .left)
 
+array-share-prefix-row-3 : tie.Need-array-share-prefix-row-3 Inv-loop μ-loop
+array-share-prefix-row-3 c = let v = c .before .before .loop .inv in omega (arith, long v, few v)
+
+slice-aggregate-found : tie.Need-slice-aggregate-found Inv-loop μ-loop
+slice-aggregate-found c = sym (length-take-le _ _ (array-share-prefix-row-3 (c .before)))
+
 found-requires : tie.Need-found-requires Inv-loop μ-loop
 found-requires c κs =
-    let l = c .before .before in
-    let e = at-end (c .before) in
+    let l = c .before .before .before in
+    let e = at-end (c .before .before) in
     let back : l .loop .p - 1 ≡ l .before .before .args .self .n = omega (arith, e) in
-    (ap Up e, l .loop .inv .comes .good, rw back at (l .loop .inv .knows))
+    (ap Up e, l .loop .inv .comes .good, refl, rw back at (l .loop .inv .knows))
 
 returns-2 : tie.Need-returns-2 Inv-loop μ-loop
-returns-2 c = then-part (c .before .before .before .loop .inv .comes) _ (c .found .ensures)
+returns-2 c = then-part (c .before .before .before .before .loop .inv .comes) _ (c .found .ensures)
 
 pub ascend-spec : {M : Type 1} → statement M
 ascend-spec =
@@ -189,5 +195,7 @@ ascend-spec =
     (λ c. search needs)
     (λ c. search needs)
     loop-again
+    array-share-prefix-row-3
+    slice-aggregate-found
     found-requires
     returns-2)

@@ -9,6 +9,7 @@ use lib.ListN.{length, take}
 use lib.Seq.{length-take-le}
 use borrow.Author.Needs.{needs}
 use borrow.Author.Tests.{eq-eqb, le-leb, leb-true, lt-leb, ne-eqb}
+use Rattle.density.specs.Necklaces.{isNecklaceOf, ofKind}
 use Rattle.prefix.specs.InnerCarried.{Knows}
 use Rattle.walk.proofs.FitCases.{all-zeros, at-down, at-ended, at-given, at-up, fit-as, is-necklace}
 use Rattle.walk.proofs.Walk.fit_at.Statement.{statement}
@@ -19,7 +20,7 @@ use Rattle.walk.specs.declared.Standing.{Standing}
 use Rattle.walk.specs.declared.Standing.the-variants.{Down, Ended, Given, Limit, Up}
 use Rattle.words.proofs.Alphabet.{within-take}
 use Rattle.words.proofs.Booleans.{and-no, and-yes, and→}
-use Rattle.words.specs.Symbols.{allUpTo}
+use Rattle.words.specs.Symbols.{Within, allUpTo}
 use Rattle.walk.proofs.Walk.fit_at.Tie as tie
 
 module _ (s : tie.Start) where
@@ -42,16 +43,16 @@ returns-2 : tie.Need-returns-2
 returns-2 c = fit-as _ (Down _) (c .before .before .at .given .1) (and-yes (le-leb 1 _ (c .if1 .taken)) refl ∙ at-down _ _)
 
 returns-3 : tie.Need-returns-3
-returns-3 c = fit-as _ (Down _) (c .before .before .at .given .1) (and-no (leb (c .before .before .at .given .0 .0) (c .before .before .before .before .before .before .args .self .n)) (lt-leb 1 _ (c .if1 .left)) refl ∙ at-down _ _)
+returns-3 c = fit-as _ (Down _) (c .before .before .at .given .1) (and-no (leb (c .before .before .at .given .0 .0) (c .before .before .before .before .before .before .before .args .self .n)) (lt-leb 1 _ (c .if1 .left)) refl ∙ at-down _ _)
 
 -- Up: the place is within the row
-placed : (c : tie.Joined2) → c .if2 .if3 ≡ (leb 2 (c .before .before .at2 .given .0 .0) && leb (c .before .before .at2 .given .0 .0) (c .before .before .before .before .before .before .args .self .n))
+placed : (c : tie.Joined2) → c .if2 .if3 ≡ (leb 2 (c .before .before .at2 .given .0 .0) && leb (c .before .before .at2 .given .0 .0) (c .before .before .before .before .before .before .before .args .self .n))
 placed c = ⊎-elim (λ q. and-yes (le-leb 2 _ (q .0 .taken)) (q .1)) (λ q. and-no _ (lt-leb 2 _ (q .0 .left)) (q .1)) (c .if2 .came)
 
-within : (c : tie.Joined2) → c .if2 .if3 ≡ true → (2 ≤ c .before .before .at2 .given .0 .0) × (c .before .before .at2 .given .0 .0 ≤ c .before .before .before .before .before .before .args .self .n)
+within : (c : tie.Joined2) → c .if2 .if3 ≡ true → (2 ≤ c .before .before .at2 .given .0 .0) × (c .before .before .at2 .given .0 .0 ≤ c .before .before .before .before .before .before .before .args .self .n)
 within c e =
     let p = c .before .before .at2 .given .0 .0 in
-    let n = c .before .before .before .before .before .before .args .self .n in
+    let n = c .before .before .before .before .before .before .before .args .self .n in
     let t = and→ (leb 2 p) (leb p n) (sym (placed c) ∙ e) in
     (leb-true 2 p (t .0), leb-true p n (t .1))
 
@@ -61,7 +62,7 @@ sub-ask c = omega (arith, within (c .before) (c .if3 .taken) .0)
 ask-requires : tie.Need-ask-requires
 ask-requires c κs =
     let j = c .before in
-    let s = j .before .before .before .before .before .before in
+    let s = j .before .before .before .before .before .before .before in
     let f = s .pre .0 in
     let p = j .before .before .at2 .given .0 .0 in
     let n = s .args .self .n in
@@ -78,54 +79,57 @@ returns-5 : tie.Need-returns-5
 returns-5 c = let j = c .before in fit-as _ (Up _) (j .before .before .at2 .given .1) (and-no _ (sym (placed j) ∙ c .if3 .left) (placed j) ∙ at-up _ _)
 
 -- Given: the whole row is known
-known-row : (c : tie.After-enum-told2) → let s = c .before .before .before .before in Knows (rowOf (s .args .self)) (s .args .known)
-known-row c = known-at (c .before .before .before .before) Given (c .enum-told2 .given .1)
-
-array-share-prefix-row : tie.Need-array-share-prefix-row
-array-share-prefix-row c = inside (c .before .before .before .before)
-
-slice-aggregate-is-necklace-of : tie.Need-slice-aggregate-is-necklace-of
-slice-aggregate-is-necklace-of c = sym (whole (c .before .before .before .before .before))
+known-row : (c : tie.After-enum-told2) → let s = c .before .before .before .before .before in Knows (rowOf (s .args .self)) (s .args .known)
+known-row c = known-at (c .before .before .before .before .before) Given (c .enum-told2 .given .1)
 
 is-necklace-of-requires : tie.Need-is-necklace-of-requires
 is-necklace-of-requires c κs =
     let s = c .before .before .before .before .before in
-    (omega (arith, whole s, s .pre .0 .some), within-take (s .args .self .n) (s .args .self .row) (s .pre .0 .symbols), known-row (c .before))
+    let e = sym (s .pre .2) in (
+      omega (arith, ap length (s .pre .2) ∙ whole s, s .pre .0 .some),
+      subst (Within 2) e (within-take (s .args .self .n) (s .args .self .row) (s .pre .0 .symbols)),
+      subst (λ r. Knows r (s .args .known)) e (known-row c),
+    )
 
-array-share-prefix-row-2 : tie.Need-array-share-prefix-row-2
-array-share-prefix-row-2 c = inside (c .before .before .before .before .before .before .before)
-
-slice-aggregate-is-of-kind : tie.Need-slice-aggregate-is-of-kind
-slice-aggregate-is-of-kind c = sym (whole (c .before .before .before .before .before .before .before .before))
+necklace : (c : tie.After-is-necklace-of) → let w = c .before .before .before .before .before .before .args .self in c .is-necklace-of .result ≡ isNecklaceOf (w .d) (rowOf w)
+necklace c = let s = c .before .before .before .before .before .before in c .is-necklace-of .ensures ∙ ap (isNecklaceOf (s .args .self .d)) (s .pre .2)
 
 is-of-kind-requires : tie.Need-is-of-kind-requires
 is-of-kind-requires c κs =
-    let s = c .before .before .before .before .before .before .before .before in
-    (omega (arith, whole s, s .pre .0 .some), is-necklace (s .args .self .d) _ (sym (c .before .before .is-necklace-of .ensures) ∙ c .before .if4 .taken), known-row (c .before .before .before .before))
+    let n = c .before in
+    let s = n .before .before .before .before .before .before in
+    let e = sym (s .pre .2) in
+    let size = ap length (s .pre .2) ∙ whole s in (
+      omega (arith, size, s .pre .0 .some),
+      omega (arith, size, s .pre .0 .most),
+      is-necklace (s .args .self .d) _ (sym (n .is-necklace-of .ensures) ∙ c .if4 .taken),
+      subst (λ r. Knows r (s .args .known)) e (known-row (n .before)),
+    )
 
 returns-6 : tie.Need-returns-6
 returns-6 c =
-    let n = c .before .before .before in
-    fit-as _ Given (n .before .before .enum-told2 .given .1) (and-yes (sym (n .is-necklace-of .ensures) ∙ c .before .before .if4 .taken) (c .is-of-kind .ensures) ∙ at-given _)
+    let n = c .before .before in
+    let s = n .before .before .before .before .before .before in
+    let w = s .args .self in
+    fit-as w Given (n .before .enum-told2 .given .1)
+    (and-yes (sym (necklace n) ∙ c .before .if4 .taken) (c .is-of-kind .ensures ∙ ap (ofKind (w .kind)) (s .pre .2)) ∙ at-given w)
 
 returns-7 : tie.Need-returns-7
-returns-7 c =
-    let n = c .before in
-    fit-as _ Given (n .before .before .enum-told2 .given .1) (and-no _ (sym (n .is-necklace-of .ensures) ∙ c .if4 .left) (n .is-necklace-of .ensures) ∙ at-given _)
+returns-7 c = let n = c .before in fit-as _ Given (n .before .enum-told2 .given .1) (and-no _ (sym (necklace n) ∙ c .if4 .left) (necklace n) ∙ at-given _)
 
 -- Ended: both rows are zeros
 returns-8 : tie.Need-returns-8
 returns-8 c =
     let h = c .before .before in
-    let s = h .before .before .before .before .before .before in
+    let s = h .before .before .before .before .before .before .before in
     fit-as _ Ended (h .before .before .enum-told3 .given .1)
     (and-yes (sym (all-zeros (h .highest .result) (s .args .self .row) (h .highest .ensures)) ∙ eq-eqb (h .highest .result) 0 (c .before .if5 .taken))
-    (all-zeros (c .highest2 .result) (s .args .self .kept) (λ b. ap (allUpTo b) (sym (s .pre .2)) ∙ c .highest2 .ensures b)) ∙ at-ended _)
+    (all-zeros (c .highest2 .result) (s .args .self .kept) (λ b. ap (allUpTo b) (sym (s .pre .3)) ∙ c .highest2 .ensures b)) ∙ at-ended _)
 
 returns-9 : tie.Need-returns-9
 returns-9 c =
     let h = c .before in
-    let s = h .before .before .before .before .before .before in
+    let s = h .before .before .before .before .before .before .before in
     let e = all-zeros (h .highest .result) (s .args .self .row) (h .highest .ensures) in
     let no = ne-eqb (h .highest .result) 0 (c .if5 .left) in
     fit-as _ Ended (h .before .before .enum-told3 .given .1) (and-no (allUpTo 0 (s .args .self .kept)) (sym e ∙ no) e ∙ at-ended _)
@@ -140,11 +144,7 @@ fit-at-spec =
     sub-ask
     ask-requires
     (λ c. search needs)
-    array-share-prefix-row
-    slice-aggregate-is-necklace-of
     is-necklace-of-requires
-    array-share-prefix-row-2
-    slice-aggregate-is-of-kind
     is-of-kind-requires
     (λ c. search needs)
     (λ c. search needs)

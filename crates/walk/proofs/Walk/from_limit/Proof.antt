@@ -47,11 +47,17 @@ found c =
     then-free (comes-here w (s .args .left) (s .pre .1)) (w .row) (Up (w .n + 1))
     (ap (λ t. free (moved w (w .row) (Up t))) m ∙ from-limit w (s .pre .0) true (sym (c .before .is-necklace-of .ensures) ∙ c .if1 .taken))
 
+array-share-prefix-row-2 : tie.Need-array-share-prefix-row-2
+array-share-prefix-row-2 c = inside (c .before .before .before .before .before .before)
+
+slice-aggregate-found : tie.Need-slice-aggregate-found
+slice-aggregate-found c = sym (whole (c .before .before .before .before .before .before .before))
+
 found-requires : tie.Need-found-requires
-found-requires c κs = (refl, found (c .before .before) .good, c .before .before .before .before .before .before .pre .3)
+found-requires c κs = (refl, found (c .before .before .before) .good, refl, c .before .before .before .before .before .before .before .pre .3)
 
 returns : tie.Need-returns
-returns c = then-part (found (c .before .before .before)) _ (c .found .ensures)
+returns c = then-part (found (c .before .before .before .before)) _ (c .found .ensures)
 
 -- it is looked below
 below : (c : tie.Else1) → let s = c .before .before .before .before in Comes (s .args .self) (s .args .left) (moved (s .args .self) (s .args .self .row) (Down (s .args .self .n))) (s .args .left)
@@ -60,8 +66,8 @@ below c =
     let w = s .args .self in
     then-free (comes-here w (s .args .left) (s .pre .1)) (w .row) (Down (w .n)) (from-limit w (s .pre .0) false (sym (c .before .is-necklace-of .ensures) ∙ c .if1 .left))
 
-array-share-prefix-row-2 : tie.Need-array-share-prefix-row-2
-array-share-prefix-row-2 c = inside (c .before .before .before .before)
+array-share-prefix-row-3 : tie.Need-array-share-prefix-row-3
+array-share-prefix-row-3 c = inside (c .before .before .before .before)
 
 slice-aggregate-shorter : tie.Need-slice-aggregate-shorter
 slice-aggregate-shorter c = sym (whole (c .before .before .before .before .before))
@@ -93,9 +99,11 @@ from-limit-spec =
     slice-aggregate-is-necklace-of
     is-necklace-of-requires
     add-beyond
+    array-share-prefix-row-2
+    slice-aggregate-found
     found-requires
     returns
-    array-share-prefix-row-2
+    array-share-prefix-row-3
     slice-aggregate-shorter
     shorter-requires
     descend-requires

@@ -133,23 +133,29 @@ module _ (c : tie.After-read Inv-loop μ-loop) where
   knows : let w = first checked in Knows (take (before (w .at) (w .n)) (w .row)) (c .read .result)
   knows = subst (λ m. Knows (take m (first checked .row)) (c .read .result)) (c .before .before .before .before2 .ensures) (c .read .ensures)
 
+array-share-prefix-row-3 : tie.Need-array-share-prefix-row-3 Inv-loop μ-loop
+array-share-prefix-row-3 c = array-share-prefix-row (checked c)
+
+slice-aggregate-fit-at : tie.Need-slice-aggregate-fit-at Inv-loop μ-loop
+slice-aggregate-fit-at c = sym (length-take-le _ _ (array-share-prefix-row-3 (c .before)))
+
 fit-at-requires : tie.Need-fit-at-requires Inv-loop μ-loop
-fit-at-requires c κs = let r = c .before in (fitting (checked r), knows r, refl)
+fit-at-requires c κs = let r = c .before .before in (fitting (checked r), knows r, refl, refl)
 
 -- the whole test
-tested : (c : tie.After-fit-at Inv-loop μ-loop) → c .fit-at .result ≡ fit rules (first (checked (c .before .before)))
-tested c = let e = checked (c .before .before) in c .fit-at .ensures ∙ fit-so-far (first e) (sizes (sized (e .before))) (rows e)
+tested : (c : tie.After-fit-at Inv-loop μ-loop) → c .fit-at .result ≡ fit rules (first (checked (c .before .before .before)))
+tested c = let e = checked (c .before .before .before) in c .fit-at .ensures ∙ fit-so-far (first e) (sizes (sized (e .before))) (rows e)
 
 returns-3 : tie.Need-returns-3 Inv-loop μ-loop
 returns-3 c =
     let f = c .before .before in
-    let s = start (sized (checked (f .before .before) .before)) in
+    let s = start (sized (checked (f .before .before .before) .before)) in
     due _ _ _ (c .unfit3 .ensures ∙ unfit-step (s .args .allowance) (s .args .self) (sym (tested f) ∙ not-true _ (c .before .if3 .taken)))
 
 -- the record is fit
 module _ (c : tie.Else3 Inv-loop μ-loop) where
   abbrev tried : tie.Else2 Inv-loop μ-loop
-  tried = checked (c .before .before .before)
+  tried = checked (c .before .before .before .before)
 
   abbrev walk : Walk
   walk = first tried
@@ -165,7 +171,7 @@ module _ (c : tie.Else3 Inv-loop μ-loop) where
 
 loop-holds : tie.Need-loop-holds Inv-loop μ-loop
 loop-holds c =
-    let r = c .before .before .before in (
+    let r = c .before .before .before .before in (
       first-informed (allowed c) (walk c) (fits c) (whole-row c) _ _ (r .before .before .before .before .prefixes-of .ensures) (knows r),
       going-first (allowed c) (walk c) (fits c) (whole-row c),
     )
@@ -175,7 +181,7 @@ go-on-requires c κs = c .before .before .loop .inv .0
 
 -- ---- the answer
 
-module _ (c : tie.After-row5 Inv-loop μ-loop) where
+module _ (c : tie.After-row6 Inv-loop μ-loop) where
   abbrev turn : tie.At-loop Inv-loop μ-loop
   turn = c .before .before .before .before
 
@@ -200,7 +206,7 @@ sub-trials c = fewer c
 
 -- a ring: measured from the row kept, which it replaces
 module _ (c : tie.After-enum-told Inv-loop μ-loop) where
-  abbrev told : tie.After-row5 Inv-loop μ-loop
+  abbrev told : tie.After-row6 Inv-loop μ-loop
   told = c .before .before
 
   says-ring : stepped (ended told) Ring (allowed (turn told .before) - came told .left) ≡ stepOf rules (walk (turn told .before)) (allowed (turn told .before))
@@ -219,8 +225,8 @@ array-share-prefix-kept c = measures c .0
 slice-aggregate-compare : tie.Need-slice-aggregate-compare Inv-loop μ-loop
 slice-aggregate-compare c = sym (length-take-le _ _ (measures (c .before) .0))
 
-array-share-prefix-row-3 : tie.Need-array-share-prefix-row-3 Inv-loop μ-loop
-array-share-prefix-row-3 c = measures (c .before) .1
+array-share-prefix-row-4 : tie.Need-array-share-prefix-row-4 Inv-loop μ-loop
+array-share-prefix-row-4 c = measures (c .before) .1
 
 slice-aggregate-compare-2 : tie.Need-slice-aggregate-compare-2 Inv-loop μ-loop
 slice-aggregate-compare-2 c = sym (length-take-le _ _ (measures (c .before .before) .1))
@@ -260,8 +266,8 @@ module _ (c : tie.After-enum-told3 Inv-loop μ-loop) where
   struck-row : length (take (walk (here .before) .n) (reached .row)) ≡ walk (here .before) .n
   struck-row = struck-length resumes nothing
 
-array-share-prefix-row-4 : tie.Need-array-share-prefix-row-4 Inv-loop μ-loop
-array-share-prefix-row-4 c = omega (arith, struck-inside (resumes c) (nothing c), struck-long (resumes c) (nothing c))
+array-share-prefix-row-5 : tie.Need-array-share-prefix-row-5 Inv-loop μ-loop
+array-share-prefix-row-5 c = omega (arith, struck-inside (resumes c) (nothing c), struck-long (resumes c) (nothing c))
 
 slice-aggregate-prefixes-of-2 : tie.Need-slice-aggregate-prefixes-of-2 Inv-loop μ-loop
 slice-aggregate-prefixes-of-2 c = sym (struck-row (c .before))
@@ -269,8 +275,8 @@ slice-aggregate-prefixes-of-2 c = sym (struck-row (c .before))
 prefixes-of-requires-2 : tie.Need-prefixes-of-requires-2 Inv-loop μ-loop
 prefixes-of-requires-2 c κs = let e = c .before in omega (arith, struck-row e, struck-inside (resumes e) (nothing e))
 
-array-share-prefix-row-5 : tie.Need-array-share-prefix-row-5 Inv-loop μ-loop
-array-share-prefix-row-5 c = array-share-prefix-row-4 (c .before .before .before)
+array-share-prefix-row-6 : tie.Need-array-share-prefix-row-6 Inv-loop μ-loop
+array-share-prefix-row-6 c = array-share-prefix-row-5 (c .before .before .before)
 
 slice-aggregate-read-2 : tie.Need-slice-aggregate-read-2 Inv-loop μ-loop
 slice-aggregate-read-2 c = sym (struck-row (c .before .before .before .before))
@@ -309,6 +315,8 @@ step-spec =
     array-share-prefix-row-2
     slice-aggregate-read
     read-requires
+    array-share-prefix-row-3
+    slice-aggregate-fit-at
     (λ c. search needs)
     fit-at-requires
     (λ c κs. search needs)
@@ -319,7 +327,7 @@ step-spec =
     (λ c. search needs)
     array-share-prefix-kept
     slice-aggregate-compare
-    array-share-prefix-row-3
+    array-share-prefix-row-4
     slice-aggregate-compare-2
     (λ c κs. search needs)
     returns-4
@@ -328,10 +336,10 @@ step-spec =
     (λ c. search needs)
     returns-6
     (λ c. search needs)
-    array-share-prefix-row-4
+    array-share-prefix-row-5
     slice-aggregate-prefixes-of-2
     prefixes-of-requires-2
-    array-share-prefix-row-5
+    array-share-prefix-row-6
     slice-aggregate-read-2
     read-requires-2
     loop-less

@@ -1,8 +1,8 @@
--- `necklace_test::all_rows::repeated` is safe and ends.
+-- `test_rows::repeated` is safe and ends.
 use Prim.Native.Nat.{_-_, _≤_}
 use borrow.Author.Needs.{needs}
-use Rattle.necklace_test.proofs.all_rows.repeated.Statement.{statement}
-use Rattle.necklace_test.proofs.all_rows.repeated.Tie as tie
+use Rattle.test_rows.proofs.repeated.Statement.{statement}
+use Rattle.test_rows.proofs.repeated.Tie as tie
 
 abbrev Inv-loop : tie.InvT-loop
 Inv-loop row p n longer₀ i₀ longer i = i ≤ 64
