@@ -1,7 +1,7 @@
 -- What the answers of the turned-over key and of the question on two rows give, at each return.
 use mathlib.Core.Bool.{Bool, false, true}
 use mathlib.Core.List.{List, reverse, _++_}
-use mathlib.Core.Path.{ap, ap₂, refl, subst, sym, _∙_, _≡_}
+use mathlib.Core.Path.{ap, ap₂, refl, sym, _∙_, _≡_}
 use Prim.Native.Nat.{ℕ, _<_, _≤_}
 use native.Mathlib.Omega.{arith}
 use lib.Dec.{eqb, leb}
@@ -25,7 +25,7 @@ use Rattle.refusal.specs.declared.Refusal.the-variants.{Limit, Stations, Symbol
 use Rattle.words.proofs.Booleans.{clash, same-test}
 use Rattle.words.proofs.Claims.{one-ring-exactly, one-turned-key}
 use Rattle.words.proofs.Difference.{no-difference}
-use Rattle.words.proofs.LeastRotation.{least-index, least-necklace}
+use Rattle.words.proofs.LeastRotation.{least-necklace}
 use Rattle.words.proofs.Reversal.{ring-length}
 use Rattle.words.proofs.Rotations.{rotation-length, →isNecklace}
 use Rattle.words.proofs.TurnedKey.{key-over, key-plain, key-ring}
@@ -62,7 +62,7 @@ module _ (row out buffer : List ℕ) (k : KeyAnswer) (e : keyOutcome k ≡ decid
     unfolding keyVerdict
     found-sized = stations→ (length row) (need→ (areStations (length row)) _ _ accepts .0)
 
-    pub found-room : length row ≤ length out
+    found-room : length row ≤ length out
     unfolding keyVerdict
     found-room =
         let a = need→ (areStations (length row)) _ _ accepts in

@@ -1,6 +1,6 @@
 -- The symbols of a reverse, and its rotations as parts of the reverse written two times.
 use mathlib.Core.List.{List, append-assoc, reverse, reverse-append, reverse-cons, _++_, _∷_}
-use mathlib.Core.Path.{ap, ap₂, refl, sym, _∙_, _≡_}
+use mathlib.Core.Path.{ap, ap₂, sym, _∙_, _≡_}
 use Prim.Native.Nat.{suc, ℕ, _+_, _-_, _<_, _≤_}
 use native.Mathlib.Omega.{arith}
 use lib.ListN.{drop, getD, length, length-append, length-drop, length-reverse, take}

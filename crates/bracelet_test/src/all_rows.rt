@@ -1,5 +1,5 @@
-// The turned-over key of all rows of up to 10 stations and of longer rows that go on with them, and the question on all pairs of short rows, against
-// plain search.
+// The turned-over key of all rows of up to 10 stations and of longer rows that go on with them, and the question on all pairs of short
+// rows, against plain search.
 use bracelet::RingAnswer;
 use bracelet::TurnedAnswer;
 use test_rows::FRESH;

@@ -1,5 +1,5 @@
-// The turned-over key of single rows, and the question on single pairs: specimens, and the refusals in their order. A case is the line that is
-// printed, up to the answer.
+// The turned-over key of single rows, and the question on single pairs: specimens, and the refusals in their order. A case is the line
+// that is printed, up to the answer.
 use bracelet::RingAnswer;
 use bracelet::TurnedAnswer;
 use test_rows::FRESH;

@@ -7,9 +7,9 @@ use mathlib.Core.Path.{ap, ap₂, refl, sym, _∙_, _≡_}
 use Prim.Native.Nat.{suc, zero, ℕ, _*_, _+_, _-_, _<_, _^_, _≤_}
 use native.Mathlib.Nat.{two-pow-succ}
 use native.Mathlib.Omega.{arith}
-use lib.Dec.{eqb, ltb}
+use lib.Dec.{ltb}
 use lib.ListN.{length}
-use borrow.Author.Tests.{eq-eqb, ltb-false, ltb-true}
+use borrow.Author.Tests.{eq-eqb, ltb-true}
 use Rattle.density.proofs.Binary.{within-binary}
 use Rattle.density.proofs.Enumeration.{out-rows}
 use Rattle.density.proofs.RowsBelow.{below-begin}
@@ -18,7 +18,7 @@ use Rattle.density.specs.Necklaces.{isNecklaceOf, necklacesBelow, ofKind}
 use Rattle.listing.proofs.Strikes.{Closed, all-closed, last, line, strike-closed}
 use Rattle.listing.proofs.TrialBounds.{counted-few, price-few}
 use Rattle.listing.specs.Claims.{AllPrices}
-use Rattle.listing.specs.Listing.{Listing, allLines, counted, entry, front, limitFirst, linesFrom, listing, listingAnswers, listingStep, over, pay, price, raise, ring, strike, struck}
+use Rattle.listing.specs.Listing.{Listing, allLines, counted, entry, front, limitFirst, linesFrom, listing, listingAnswers, listingStep, over, pay, price, raise, strike, struck}
 use Rattle.listing.specs.Totals.{AtMost, all-over, allTrials, and-then, listingLeft, trialsTold}
 use Rattle.words.proofs.Lists.{keep-append, keep-map, keep→}
 use Rattle.words.specs.Order.{lt}

@@ -2,7 +2,7 @@
 use mathlib.Core.Bool.{Bool, cond, false, true, true≢false, _||_}
 use mathlib.Core.List.{List, List·Memᴰ, List·Memᴰ·head, List·Memᴰ·tail, [], append-assoc, _++_, _∷_}
 use mathlib.Core.Path.{ap, refl, sym, _∙_, _≡_}
-use Prim.Native.Nat.{suc, zero, ℕ, _*_, _+_, _-_, _≤_}
+use Prim.Native.Nat.{suc, ℕ, _*_, _+_, _-_, _≤_}
 use native.Mathlib.Omega.{arith}
 use lib.Dec.{eqb}
 use lib.ListN.{length}

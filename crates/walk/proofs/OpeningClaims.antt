@@ -1,7 +1,7 @@
 -- The claims on opening a walk, and on the steps that follow, hold.
 use mathlib.Core.Bool.{_&&_}
 use mathlib.Core.List.{List, [], append-cancel-left, append-nil, _++_, _∷_}
-use mathlib.Core.Logic.{inl, inr, _↔_, _⊎_}
+use mathlib.Core.Logic.{inl, inr, _↔_}
 use mathlib.Core.Path.{ap, refl, subst, sym, _∙_, _≡_}
 use Prim.Native.Nat.{suc, zero, ℕ, _*_, _-_, _<_, _^_, _≤_}
 use native.Mathlib.Omega.{arith}

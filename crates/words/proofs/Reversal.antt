@@ -15,7 +15,6 @@ use Rattle.words.proofs.Rotations.{rotation-length, rotation-seam, rota
 use Rattle.words.specs.Order.{same}
 use Rattle.words.specs.Reversal.{SameRing, oneRing, rotatesTo}
 use Rattle.words.specs.Rotation.{IsRotation, rotation}
-use Rattle.words.specs.Tests.{someBelow}
 
 -- a rotation of the reverse is the reverse of a rotation
 pub rotation-reverse : (w : List ℕ) (j : ℕ) → j ≤ length w → rotation j (reverse w) ≡ reverse (rotation (length w - j) w)

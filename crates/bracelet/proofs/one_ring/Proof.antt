@@ -1,7 +1,6 @@
 -- `bracelet::one_ring` meets its contract: the laws of Answers, at each return.
 use mathlib.Core.Bool.{true}
-use mathlib.Core.Path.{ap, ap₂, refl, sym, _∙_, _≡_}
-use Prim.Native.Nat.{_≤_}
+use mathlib.Core.Path.{ap₂, refl, sym, _∙_, _≡_}
 use native.Mathlib.Omega.{arith}
 use lib.ListN.{length}
 use lib.Seq.{length-take-le}

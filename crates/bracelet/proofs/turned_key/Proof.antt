@@ -1,13 +1,11 @@
 -- `bracelet::turned_key` meets its contract: the laws of Answers, at each return.
-use mathlib.Core.List.{List, reverse}
-use mathlib.Core.Path.{ap, refl, sym, _∙_, _≡_}
-use Prim.Native.Nat.{ℕ, _≤_}
+use mathlib.Core.List.{reverse}
+use mathlib.Core.Path.{ap, sym, _∙_}
 use native.Mathlib.Omega.{arith}
-use lib.ListN.{length, length-reverse, take}
-use lib.Seq.{length-take-le, take-at}
+use lib.ListN.{length, length-reverse}
+use lib.Seq.{length-take-le}
 use borrow.Author.Needs.{needs}
-use borrow.Author.Tests.{not-false, not-true}
-use Rattle.bracelet.proofs.Answers.{Shelved, found-room, found-sized, key-shelved, kept-room, turned-over, turned-plain, turned-refused}
+use Rattle.bracelet.proofs.Answers.{found-sized, key-shelved, kept-room, turned-over, turned-plain, turned-refused}
 use Rattle.bracelet.proofs.Parts.{reversed-part, reversed-room}
 use Rattle.refusal.proofs.Stations.{Sized}
 use Rattle.words.proofs.LeastRotation.{least-index}

@@ -1,6 +1,6 @@
 -- `bracelet::inner::is_bracelet` meets its contract: the laws of Against, at each place of the code.
 use mathlib.Core.List.{List, reverse, _++_}
-use mathlib.Core.Path.{ap, refl, sym, _∙_, _≡_}
+use mathlib.Core.Path.{ap, refl, _∙_, _≡_}
 use Prim.Native.Nat.{ℕ, _+_, _-_, _≤_}
 use native.Mathlib.Omega.{arith}
 use lib.ListN.{length}
