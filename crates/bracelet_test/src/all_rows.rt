@@ -91,38 +91,27 @@ fn byte(sort: usize, i: usize) -> u8 {
     }
 }
 
-// How many bytes the row with a number has. Over so many sorts of bytes all rows are numbered from 0, shorter rows first.
-fn length_of(number: usize, sorts: usize) -> usize
-    requires { ⌜ 0 < sorts ⌝ }
-{
-    let mut rest = number;
-    let mut n: usize = 0;
-    while n < refusal::MOST_STATIONS {
-        if rest == 0 {
-            return n;
-        }
-        rest = (rest - 1) / sorts;
-        n += 1;
-    }
-    n
+struct Numbered {
+    row: [u8; refusal::MOST_STATIONS],
+    n: usize,
 }
 
-// The row with a number.
-fn row_of(number: usize, sorts: usize) -> [u8; refusal::MOST_STATIONS]
+// The row with a number. Over so many sorts of bytes all rows are numbered from 0, shorter rows first.
+fn row_of(number: usize, sorts: usize) -> Numbered
     requires { ⌜ 0 < sorts ⌝ }
 {
     let mut row = [0u8; refusal::MOST_STATIONS];
     let mut rest = number;
-    let mut i: usize = 0;
-    while i < refusal::MOST_STATIONS {
+    let mut n: usize = 0;
+    while n < refusal::MOST_STATIONS {
         if rest == 0 {
-            return row;
+            return Numbered { row, n };
         }
-        row[i] = byte((rest - 1) % sorts, i);
+        row[n] = byte((rest - 1) % sorts, n);
         rest = (rest - 1) / sorts;
-        i += 1;
+        n += 1;
     }
-    row
+    Numbered { row, n }
 }
 
 // The place of the first wrong byte, 0 where there is none.
@@ -188,18 +177,16 @@ fn compare_pairs(sorts: usize, rows: usize, pairs: usize)
     let mut told = [0usize; 100];
     let mut pair: usize = 0;
     while pair < pairs {
-        let number = pair / rows;
-        let other_number = pair % rows;
-        let n = length_of(number, sorts);
-        let other_n = length_of(other_number, sorts);
-        let row = row_of(number, sorts);
-        let other = row_of(other_number, sorts);
+        let first = row_of(pair / rows, sorts);
+        let second = row_of(pair % rows, sorts);
+        let row = first.row;
+        let other = second.row;
         let answer = answer_told(bracelet::one_ring(
-            cases::part(&row, 0, n),
-            cases::part(&other, 0, other_n),
+            cases::part(&row, 0, first.n),
+            cases::part(&other, 0, second.n),
         ));
         let k = answer / 100 % 100;
-        agreed += test_rows::one_if(answer == answer_due(&row, n, &other, other_n));
+        agreed += test_rows::one_if(answer == answer_due(&row, first.n, &other, second.n));
         places = std::num::wrapping_add_usize(places, answer % 100);
         told[k] = std::num::wrapping_add_usize(told[k], 1);
         pair += 1;

@@ -62,97 +62,46 @@ pub fn show_all() {
     show_lines(
         b"turned key of 6 stations 001101 buffer 80\n\
           turned key of 6 stations 001011 buffer 80\n\
-          turned key of 6 stations 110100 buffer 80\n\
-          turned key of 6 stations 101100 buffer 80\n\
-          turned key of 4 stations 0011 buffer 80\n\
-          turned key of 4 stations 0110 buffer 4\n\
-          turned key of 6 stations 000111 buffer 80\n\
-          turned key of 6 stations 101010 buffer 7\n\
+          turned key of 6 stations 101100 buffer 7\n\
+          turned key of 6 stations 000111 buffer 6\n\
+          turned key of 6 stations 101010 buffer 80\n\
           turned key of 1 stations 0 buffer 80\n\
           turned key of 1 stations 1 buffer 1\n\
-          turned key of 2 stations 10 buffer 2\n\
-          turned key of 2 stations 11 buffer 3\n\
-          turned key of 12 stations 001101001101 buffer 80\n\
           turned key of 64 stations 1010101010101010101010101010101010101010101010101010101010101010 buffer 64\n\
           turned key of 64 stations 1100100011001000110010001100100011001000110010001100100011001000 buffer 64\n\
           turned key of 64 stations 1101001011010010000001001000000000000000110100101101001000000100 buffer 65\n\
           turned key of 64 stations 0010000001001011010010110000000000000001001000000100101101001011 buffer 80\n\
           turned key of 0 stations  buffer 0\n\
-          turned key of 0 stations  buffer 80\n\
-          turned key of 65 stations 01010101010101010101010101010101010101010101010101010101010101010 buffer 80\n\
           turned key of 65 stations 01010101010101010101010101010101010101010101010101010101010101012 buffer 0\n\
           turned key of 4 stations 0121 buffer 0\n\
           turned key of 4 stations 2012 buffer 80\n\
-          turned key of 4 stations 0102 buffer 80\n\
-          turned key of 4 stations 0232 buffer 3\n\
-          turned key of 1 stations 3 buffer 0\n\
           turned key of 64 stations 0000000000000000000000000000000000000000000000000000000000000002 buffer 63\n\
           turned key of 6 stations 001101 buffer 5\n\
           turned key of 6 stations 001101 buffer 0\n\
-          turned key of 1 stations 0 buffer 0\n\
           turned key of 64 stations 0000000000000000000000000000000000000000000000000000000000000000 buffer 63\n\
-          one ring of 6 stations 001011 and 001011\n\
           one ring of 6 stations 001011 and 101100\n\
           one ring of 6 stations 001011 and 001101\n\
-          one ring of 6 stations 001101 and 001011\n\
           one ring of 6 stations 001011 and 110100\n\
           one ring of 6 stations 001011 and 000111\n\
-          one ring of 6 stations 001011 and 001111\n\
-          one ring of 6 stations 000000 and 111111\n\
-          one ring of 6 stations 000000 and 000000\n\
-          one ring of 4 stations 0011 and 1001\n\
-          one ring of 6 stations 010101 and 101010\n\
-          one ring of 4 stations 0011 and 0101\n\
-          one ring of 1 stations 0 and 0\n\
+          one ring of 6 stations 000111 and 000111\n\
           one ring of 1 stations 0 and 1\n\
-          one ring of 2 stations 01 and 10\n\
-          one ring of 2 stations 00 and 01\n\
           one ring of 64 stations 1101001011010010000001001000000000000000110100101101001000000100 \
             and 0000100100000000000000011010010110100100000010011010010110100100\n\
           one ring of 64 stations 1101001011010010000001001000000000000000110100101101001000000100 \
             and 0010000001001011010010110010000001001011010010110000000000000001\n\
           one ring of 64 stations 1101001011010010000001001000000000000000110100101101001000000100 \
             and 1101001011010010000001001000000000000000110100101101001000000001\n\
-          one ring of 64 stations 1100100011001000110010001100100011001000110010001100100011001000 \
-            and 0001001100010011000100110001001100010011000100110001001100010011\n\
-          one ring of 0 stations  and \n\
-          one ring of 0 stations  and 0\n\
-          one ring of 0 stations  and 2\n\
           one ring of 0 stations  and 00000000000000000000000000000000000000000000000000000000000000002\n\
           one ring of 65 stations 01010101010101010101010101010101010101010101010101010101010101010 \
             and 01010101010101010101010101010101010101010101010101010101010101010\n\
-          one ring of 65 stations 21010101010101010101010101010101010101010101010101010101010101010 \
-            and 01010101010101010101010101010101010101010101010101010101010101010\n\
-          one ring of 65 stations 01010101010101010101010101010101010101010101010101010101010101010 \
-            and 0000000000000000000000000000000000000000000000000000000000000000\n\
           one ring of 65 stations 00000000000000000000000000000000000000000000000000000000000000002 and 2101\n\
           one ring of 4 stations 0101 and \n\
-          one ring of 4 stations 0101 and 010\n\
-          one ring of 4 stations 0101 and 01010\n\
-          one ring of 1 stations 0 and \n\
           one ring of 64 stations 0000000000000000000000000000000000000000000000000000000000000000 \
             and 00000000000000000000000000000000000000000000000000000000000000000\n\
           one ring of 4 stations 0121 and 010\n\
-          one ring of 4 stations 0121 and 01010\n\
-          one ring of 4 stations 0101 and 012\n\
-          one ring of 4 stations 0101 and 20101\n\
-          one ring of 4 stations 2101 and 2\n\
           one ring of 4 stations 0121 and 00000000000000000000000000000000000000000000000000000000000000002\n\
-          one ring of 4 stations 2101 and 0101\n\
-          one ring of 4 stations 0121 and 0101\n\
-          one ring of 4 stations 0102 and 0101\n\
-          one ring of 4 stations 0232 and 0101\n\
-          one ring of 1 stations 2 and 0\n\
           one ring of 4 stations 0121 and 2101\n\
-          one ring of 4 stations 0102 and 2222\n\
-          one ring of 4 stations 2101 and 0102\n\
-          one ring of 4 stations 0201 and 0201\n\
-          one ring of 1 stations 3 and 2\n\
-          one ring of 4 stations 0101 and 2101\n\
-          one ring of 4 stations 0101 and 0121\n\
-          one ring of 4 stations 0101 and 0102\n\
           one ring of 4 stations 0101 and 0232\n\
-          one ring of 1 stations 0 and 2\n\
           one ring of 64 stations 0000000000000000000000000000000000000000000000000000000000000000 \
             and 0000000000000000000000000000000000000000000000000000000000000002\n\
           one ring of 64 stations 0000000000000000000000000000000000000000000000000000000000000002 \

@@ -5,10 +5,10 @@ use Rattle.bracelet_test.proofs.all_rows.compare_pairs.Statement.{state
 use Rattle.bracelet_test.proofs.all_rows.compare_pairs.Tie as tie
 
 abbrev Inv-loop : tie.InvT-loop
-Inv-loop sorts rows pairs agreed₀ places₀ told₀ pair₀ t16 t17 agreed places told pair = (pair ≤ pairs) × (agreed ≤ pair)
+Inv-loop sorts rows pairs agreed₀ places₀ told₀ pair₀ t14 t15 agreed places told pair = (pair ≤ pairs) × (agreed ≤ pair)
 
 abbrev μ-loop : tie.MeasureT-loop
-μ-loop sorts rows pairs agreed₀ places₀ told₀ pair₀ t16 t17 agreed places told pair = pairs - pair
+μ-loop sorts rows pairs agreed₀ places₀ told₀ pair₀ t14 t15 agreed places told pair = pairs - pair
 
 pub compare-pairs-spec : {M : Type 1} → statement M
 compare-pairs-spec =
@@ -18,10 +18,8 @@ compare-pairs-spec =
     μ-loop
     (λ c. search needs)
     (λ c. search needs)
+    (λ c κs. search needs)
     (λ c. search needs)
-    (λ c κs. search needs)
-    (λ c κs. search needs)
-    (λ c κs. search needs)
     (λ c κs. search needs)
     (λ c. search needs)
     (λ c κs. search needs)

@@ -6,10 +6,10 @@ use Rattle.bracelet_test.proofs.all_rows.row_of.Statement.{statement}
 use Rattle.bracelet_test.proofs.all_rows.row_of.Tie as tie
 
 abbrev Inv-loop : tie.InvT-loop
-Inv-loop number sorts row₀ rest₀ i₀ row rest i = i ≤ mostStations
+Inv-loop number sorts row₀ rest₀ n₀ row rest n = n ≤ mostStations
 
 abbrev μ-loop : tie.MeasureT-loop
-μ-loop number sorts row₀ rest₀ i₀ row rest i = mostStations - i
+μ-loop number sorts row₀ rest₀ n₀ row rest n = mostStations - n
 
 pub row-of-spec : {M : Type 1} → statement M
 row-of-spec =
