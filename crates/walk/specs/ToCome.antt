@@ -34,7 +34,7 @@ abbrev pub firstAt : ℕ → List (List ℕ) → Listing
 firstAt k [] = over
 firstAt k (r ∷ rs) = entry (ring r) k (linesFrom true r rs)
 
--- the lines to come, of both kinds: the book from the limit or from the row where the walk looks; at Up p the places p to n are to be tried
+-- the lines to come, of every kind: the book from the limit or from the row where the walk looks; at Up p the places p to n are to be tried
 unfoldable pub linesAt : Standing → ℕ → ℕ → List ℕ → Listing
 linesAt Limit n d row = allLines n d (take n row)
 linesAt (Down p) n d row = linesFrom false (lowest p n row) (rowsAt (Down p) n d row)
