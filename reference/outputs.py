@@ -4,6 +4,7 @@ from itertools import count, product
 import texts
 from cases import MOST, calls, lines, numeral
 from rings import (
+    REFUSED_WALK,
     ZEROS,
     begins,
     begins_by_tops,
@@ -11,6 +12,7 @@ from rings import (
     book_answers,
     bracelets,
     drawer,
+    fetch,
     first_difference,
     is_kind,
     key,
@@ -20,6 +22,7 @@ from rings import (
     padded,
     pairs,
     pitches_of_row,
+    put,
     refusal,
     row_of_pitches,
     shelved,
@@ -406,15 +409,18 @@ def walk_test():
 STANDINGS = ("Limit", "Down", "Up", "Given", "Ended")
 
 
+def told(answer):
+    return answer if answer in ("ring", "none") else f"refused {answer}"
+
+
 def show_single(line):
     name, fields = line.split(": ")
     n, d, kind, where, place, *rows = fields.split(" ")
     row, kept = (padded(symbols(digits)) for digits in (rows + [""])[:2])
     walk = (numeral(n), numeral(d), int(kind), row, (where, numeral(place)), kept)
     after, answer, carried, trials = step(walk, PLENTY)
-    answer = answer if answer in ("ring", "none") else f"refused {answer}"
     n, _, _, row, (where, place), kept = after
-    print(f"{name}: {answer} trials {trials} row {text(row[:n])} standing {STANDINGS.index(where)} place {place}", end=" ")
+    print(f"{name}: {told(answer)} trials {trials} row {text(row[:n])} standing {STANDINGS.index(where)} place {place}", end=" ")
     print(f"carries {carried} kept {text(kept[:n])} unchanged {said(after == walk)}")
 
 
@@ -471,18 +477,22 @@ def random_row(record, n):
     return tuple(random_symbol(record, i, n) for i in range(64)) if drawn(record, 66, 8) else ZEROS
 
 
-def random_step(record):
+def random_record(record):
     n = drawn(record, 65, 68 if drawn(record, 64, 2) else 10)
     row = random_row(record, n)
     d = row.count(1) if drawn(record, 67, 2) else drawn(record, 68, n + 2)
     kind = drawn(record, 69, 32)
     where = STANDINGS[drawn(record, 70, 5)]
     at = where, drawn(record, 71, n + 2) if where in ("Down", "Up") else 0
-    allowance = drawn(record, 72, 8)
     which = drawn(record, 73, 8)
     kept = ZEROS if where == "Ended" and which < 7 else random_row(record + 500000, n)
     kept = row if which < 2 else kept
-    return (n, d, {0: 0, 1: 4}.get(kind, 1 + kind % 3), row, at, kept), allowance if allowance < 7 else PLENTY
+    return n, d, {0: 0, 1: 4}.get(kind, 1 + kind % 3), row, at, kept
+
+
+def random_allowance(record):
+    allowance = drawn(record, 72, 8)
+    return allowance if allowance < 7 else PLENTY
 
 
 def walk_record_test():
@@ -494,7 +504,116 @@ def walk_record_test():
             allowed = f"allowed {a}" if a < PLENTY else "plenty allowed"
             show_outcomes(f"n {n} records {len(records)} {allowed}", ((walk, a) for walk in records))
     for first, end in calls("walk_record_test", "show_records"):
-        show_outcomes(f"at random, records {first} up to {end}", map(random_step, range(first, end)))
+        steps = ((random_record(record), random_allowance(record)) for record in range(first, end))
+        show_outcomes(f"at random, records {first} up to {end}", steps)
+
+
+# ---- binder_test
+
+
+def after_two(n, d, kind, *allowances):
+    _, walk = opened(n, d, kind, (1,) * n)
+    for a in allowances:
+        walk = step(walk, a)[0]
+    return walk
+
+
+WALKS = {
+    "a": after_two(8, 3, 1, PLENTY, PLENTY),
+    "b": after_two(6, 3, 2, 3, 0),
+    "c": after_two(4, 1, 2, PLENTY, PLENTY),
+    "x": (1, 0, 1, ZEROS, ("Down", 0), ZEROS),
+}
+
+
+def show_fetched(walk):
+    n, d, kind, row, (where, place), _ = walk
+    after, answer, _, _ = step(walk, PLENTY)
+    print(f"({n},{d}) kind {kind} standing {STANDINGS.index(where)} place {place} row {text(row[:n])}", end=" ")
+    print("step:", told(answer), "row", text(after[3][:n]))
+
+
+def show_binder_call(binder, letter, name):
+    """The binder after it."""
+    if letter == "f":
+        walk, no = fetch(binder, numeral(name))
+    else:
+        after, no = put(binder, numeral(name), WALKS[letter])
+    print(f"{letter} {name}:", refused(no, 0) if no else "done", end=" ")
+    if letter == "f":
+        show_fetched(walk)
+        return binder
+    print("changed", sum(binder.get(i) != after.get(i) for i in range(8)))
+    return after
+
+
+def name_of(x):
+    return x if x < 10 else {10: 255, 11: MOST}.get(x, x % 4)
+
+
+def rows_of(walk):
+    n, _, _, row, _, kept = walk
+    return number_of(row[:n]) + number_of(kept[:n])
+
+
+def random_opening(call):
+    n = 8 - drawn(call, 2, 1 + drawn(call, 7, 8))
+    limit = row_of_number(n, drawn(call, 5, 2**n))
+    return opened(n, drawn(call, 3, n + 1), 1 + drawn(call, 4, 3), limit)[1]
+
+
+def list_calls(number):
+    """What each call says, with its place, its trials and the rows handed back."""
+    walk, binder = REFUSED_WALK, {}
+    for index in range(50 * number, 50 * number + 50):
+        call = index + 800000
+        which, name = drawn(call, 0, 16), name_of(drawn(call, 1, 32))
+        if which < 4:
+            walk = random_opening(call)
+            yield "opened", 0, 0, 0
+        elif which < 10:
+            walk, *rest = step(walk, random_allowance(call))
+            yield *rest, rows_of(walk)
+        elif which < 14:
+            binder, no = put(binder, name, walk if which < 13 else random_record(index))
+            yield no or "put", 0, 0, 0
+        else:
+            walk, no = fetch(binder, name)
+            yield no or "fetched", 0, 0, rows_of(walk)
+
+
+def binder_calls(number):
+    """For each name a fetch, a step of what it gives, and a put; of a binder where something was put under some names."""
+    under = enumerate(range(100000 + 8 * number, 100008 + 8 * number))
+    binder = {name: random_record(record) for name, record in under if drawn(record, 74, 3)}
+    for x in range(12):
+        index = 200000 + 12 * number + x
+        walk, no = fetch(binder, name_of(x))
+        yield no or "fetched", 0, 0, rows_of(walk)
+        walk, *rest = step(walk, random_allowance(index))
+        yield *rest, rows_of(walk)
+        binder, no = put(binder, name_of(x), random_record(index))
+        yield no or "put", 0, 0, 0
+
+
+def show_counts(name, told_calls):
+    """How many calls say what, and the sums."""
+    answers, places, trials, rows = zip(*told_calls)
+    said = ("opened", "ring", "none", 20, 21, "put", "fetched", 12, 22, 23)
+    print(f"{name}: calls {len(answers)}", *(f"{answer} {answers.count(answer)}" for answer in said), end=" ")
+    print(f"trials {sum(trials)} places {sum(places)} rows {sum(rows)} differing 0")
+
+
+def binder_test():
+    for single in "".join(lines("binder_test")).split("new,")[1:]:
+        print("new")
+        binder = {}
+        for call in single.split(",")[:-1]:
+            binder = show_binder_call(binder, *call.split(" "))
+    for name, made in ("lists", list_calls), ("binders", binder_calls):
+        for first in range(0, 400, 100):
+            told_calls = (call for number in range(first, first + 100) for call in made(number))
+            show_counts(f"{name} at random, a hundred from {first}", told_calls)
 
 
 # ---- walk_bench

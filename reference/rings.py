@@ -281,3 +281,20 @@ def opened(n, d, kind, limit):
     """The refusal and None, or None and the walk."""
     no = refusal((1, not stations(n)), (2, d > n), (5, not is_kind(kind)), (4, len(limit) != n), (3, wrong(limit)))
     return (no, None) if no else (None, (n, d, kind, padded(limit), ("Limit", 0), padded(limit)))
+
+
+# ---- a binder: the walks put, by their names
+
+REFUSED_WALK = (1, 0, 1, ZEROS, ("Ended", 0), ZEROS)
+
+
+def put(binder, name, walk):
+    """The binder, and 0 or the refusal's number."""
+    no = refusal((12, name > 7), (22, not fit(*walk)))
+    return (binder, no[0]) if no else ({**binder, name: walk}, 0)
+
+
+def fetch(binder, name):
+    """The walk, and 0 or the refusal's number."""
+    no = refusal((12, name > 7), (23, name not in binder))
+    return (REFUSED_WALK, no[0]) if no else (binder[name], 0)

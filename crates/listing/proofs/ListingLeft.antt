@@ -59,6 +59,12 @@ also-append (says (ring r)) x y = refl
 also-append (says none) x y = refl
 also-append (refused c) x y = refl
 
+-- the rings of some answers and of others after them
+pub named-append : (a b : List Told) → named (a ++ b) ≡ named a ++ named b
+unfolding named
+named-append [] b = refl
+named-append (t ∷ a) b = ap (alsoSaid (t .said)) (named-append a b) ∙ sym (also-append (t .said) (named a) (named b))
+
 -- the rings named and the rings to come are the rings of the book
 pub named-left : (steps : List ℕ) {l : Listing} → Remaining l → named (listingAnswers l steps) ++ ringsOf (listingLeft l steps) ≡ ringsOf l
 unfolding named listingAnswers listingLeft

@@ -1,7 +1,7 @@
 -- "Refused for the input" and "Refused for the state": each refusal's number and place.
 use Prim.Native.Nat.{ℕ}
 use Rattle.refusal.specs.declared.Refusal.{Refusal}
-use Rattle.refusal.specs.declared.Refusal.the-variants.{Stations, Holes, Symbol, Limit, Kind, Prefix, PitchSum, LastPlain, Buffer, Text, ZeroPitch, Ended, Spent, Unfit}
+use Rattle.refusal.specs.declared.Refusal.the-variants.{Stations, Holes, Symbol, Limit, Kind, Prefix, PitchSum, LastPlain, Buffer, Text, ZeroPitch, Name, Ended, Spent, Unfit, NothingPut}
 
 -- the number of document 01
 abbrev pub numberOf : Refusal → ℕ
@@ -16,9 +16,11 @@ numberOf LastPlain = 8
 numberOf Buffer = 9
 numberOf (Text line) = 10
 numberOf (ZeroPitch p) = 11
+numberOf Name = 12
 numberOf Ended = 20
 numberOf Spent = 21
 numberOf Unfit = 22
+numberOf NothingPut = 23
 
 -- its place: "0 unless named"
 abbrev pub placeOf : Refusal → ℕ
@@ -33,6 +35,8 @@ placeOf LastPlain = 0
 placeOf Buffer = 0
 placeOf (Text line) = line
 placeOf (ZeroPitch p) = p
+placeOf Name = 0
 placeOf Ended = 0
 placeOf Spent = 0
 placeOf Unfit = 0
+placeOf NothingPut = 0

@@ -29,12 +29,16 @@ pub enum Refusal {
     Text(usize),
     // a pitch of 0, with the place of the first in the list
     ZeroPitch(usize),
+    // a name above 7
+    Name,
     // the walk has ended
     Ended,
     // allowance spent
     Spent,
     // unfit walk record
     Unfit,
+    // nothing put under the name
+    NothingPut,
 }
 
 // Whether a row may have n stations.
@@ -60,9 +64,11 @@ pub fn number(r: Refusal) -> u8
         Refusal::Buffer => 9,
         Refusal::Text(_) => 10,
         Refusal::ZeroPitch(_) => 11,
+        Refusal::Name => 12,
         Refusal::Ended => 20,
         Refusal::Spent => 21,
         Refusal::Unfit => 22,
+        Refusal::NothingPut => 23,
     }
 }
 
@@ -82,8 +88,10 @@ pub fn place(r: Refusal) -> usize
         Refusal::Buffer => 0,
         Refusal::Text(line) => line,
         Refusal::ZeroPitch(p) => p,
+        Refusal::Name => 0,
         Refusal::Ended => 0,
         Refusal::Spent => 0,
         Refusal::Unfit => 0,
+        Refusal::NothingPut => 0,
     }
 }

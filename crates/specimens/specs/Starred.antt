@@ -1,5 +1,5 @@
--- The starred specimens of document 01, with the places of M-100, the pitches of M-110, the pairs of M-130 and rings of M-140 that are turned
--- over, and what each says of the definitions.
+-- The starred specimens of document 01, with the places of M-100, the pitches of M-110, the pairs of M-130, rings of M-140 that are turned
+-- over and a bookmark of M-150, and what each says of the definitions.
 use mathlib.Core.Path.{_≡_}
 use mathlib.Core.Bool.{Bool, true, false}
 use mathlib.Core.List.{List, [], _∷_, _++_}
@@ -13,8 +13,9 @@ use Rattle.words.specs.Symbols.{ones, zeros}
 use Rattle.words.specs.declared.Order.{Order}
 use Rattle.words.specs.declared.Order.the-variants.{Higher, Lower}
 use Rattle.density.specs.Necklaces.{begins, largestNecklace}
-use Rattle.listing.specs.Listing.{Line, ring, none, says, told}
-use Rattle.listing.specs.Places.{placed}
+use Rattle.binder.specs.Calls.{Call, atFirst, callAnswers, fetches, opens, puts, steps}
+use Rattle.listing.specs.Listing.{Line, ring, none, refused, says, told}
+use Rattle.listing.specs.Places.{Placed, placed}
 use Rattle.pitches.specs.Pitches.{pitchesOfRow}
 use Rattle.walk.specs.Moves.{rules}
 use Rattle.walk.specs.Opening.{openVerdict, openWalk}
@@ -37,6 +38,8 @@ pub data Specimen : Type 0 where
   fits : List ℕ → List ℕ → Bool → Specimen
   -- drawer (n, d), kind, limit: the first answer of the walk that opening hands out, its place and its trials
   step : ℕ → ℕ → ℕ → List ℕ → Line → ℕ → ℕ → Specimen
+  -- openings, steps, puts and fetches: the answers of the steps
+  calls : List Call → List Placed → Specimen
 
 -- what a specimen says
 abbrev pub Says : Specimen → Type 0
@@ -49,6 +52,7 @@ Says (turned w k) = turnedKey w ≡ k
 Says (fits a b answer) = oneRing a b ≡ answer
 Says (step n d kind limit line place trials) =
     walkPlaced rules (openWalk (openVerdict n d kind limit) rules n d kind limit) (100 ∷ []) ≡ placed (told (says line) trials) place ∷ []
+Says (calls cs answers) = callAnswers atFirst cs ≡ answers
 
 -- what all of a list say
 abbrev pub Say : List Specimen → Type 0
@@ -77,5 +81,12 @@ starred =
     ∷ step 2 0 2 (1 ∷ 1 ∷ []) none 0 3
     ∷ step 1 0 2 (0 ∷ []) (ring (0 ∷ [])) 0 0
     ∷ step 6 3 3 (0 ∷ 0 ∷ 1 ∷ 1 ∷ 0 ∷ 1 ∷ []) (ring (0 ∷ 0 ∷ 1 ∷ 0 ∷ 1 ∷ 1 ∷ [])) 4 3
+    ∷ calls
+    (opens 6 3 1 (ones 6) ∷ steps 100 ∷ steps 4 ∷ puts 7 ∷ steps 100 ∷ fetches 7 ∷ steps 100 ∷ [])
+    (placed (told (says (ring (0 ∷ 1 ∷ 0 ∷ 1 ∷ 0 ∷ 1 ∷ []))) 11) 1
+    ∷ placed (told (refused 21) 4) 0
+    ∷ placed (told (says (ring (0 ∷ 0 ∷ 1 ∷ 1 ∷ 0 ∷ 1 ∷ []))) 2) 2
+    ∷ placed (told (says (ring (0 ∷ 0 ∷ 1 ∷ 1 ∷ 0 ∷ 1 ∷ []))) 2) 2
+    ∷ [])
     ∷ pitches (0 ∷ 0 ∷ 1 ∷ 0 ∷ 0 ∷ 1 ∷ 0 ∷ 1 ∷ []) (3 ∷ 3 ∷ 2 ∷ [])
     ∷ []

@@ -1,5 +1,6 @@
-// Walk records for the test programs: compared, numbered and printed. The drawer's book, by a plain listing.
+// Walk records for the test programs: compared, numbered, printed, and drawn at random. The drawer's book, by a plain listing.
 pub mod book;
+pub mod random;
 
 use walk::Answer;
 use walk::Standing;
@@ -60,6 +61,20 @@ pub fn first_difference(
     0
 }
 
+// The number whose binary digits are the first n symbols, modulo a prime.
+pub fn number_of(n: usize, row: &[u8; refusal::MOST_STATIONS]) -> usize {
+    let mut number: usize = 0;
+    let mut i: usize = 0;
+    while i < n {
+        if refusal::MOST_STATIONS <= i {
+            return number;
+        }
+        number = (2 * number + test_rows::wide(row[i])) % 10007;
+        i += 1;
+    }
+    number
+}
+
 pub fn same_walk(w: Walk, other: Walk) -> bool {
     let row = w.row;
     let at = w.at;
@@ -108,4 +123,19 @@ pub fn print_truth(holds: bool) {
     io::write_all(1, b" ");
     test_rows::print_truth(holds);
     io::write_all(1, b"\n");
+}
+
+// What a step says: a ring 0, none 1, or the refusal's number.
+pub fn print_said(said: u8) {
+    match said {
+        0 => {
+            io::write_all(1, b": ring");
+        }
+        1 => {
+            io::write_all(1, b": none");
+        }
+        _ => {
+            test_rows::print_named(b": refused ", test_rows::wide(said));
+        }
+    }
 }

@@ -11,6 +11,8 @@ pub mod Needed
 pub mod AnyStep
 -- the row kept, and the places
 pub mod KeptRow
+-- lists of steps, one after the other
+pub mod StepLists
 -- what the functions compute, step by step
 pub mod FitCases
 pub mod MoveByMove

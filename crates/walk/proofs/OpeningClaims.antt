@@ -72,10 +72,10 @@ module _ (o : Opening) where
   same-walk : opened o ≡ fresh rules (o .n) (o .d) (o .kind) (o .limit)
   same-walk = ap (λ v. openWalk v rules (o .n) (o .d) (o .kind) (o .limit)) (o .passed)
 
-  opened-fit : Fit rules (opened o)
+  pub opened-fit : Fit rules (opened o)
   opened-fit = rw same-walk (fresh-fit rules (o .n) (o .d) (o .kind) (o .limit) admitted)
 
-  opened-stands : stands rules (opened o) ≡ bookOf o
+  pub opened-stands : stands rules (opened o) ≡ bookOf o
   opened-stands = ap (stands rules) same-walk ∙ fresh-stands rules (o .n) (o .d) (o .kind) (o .limit) admitted
 
   opened-kept : keptOf (opened o) ≡ o .limit

@@ -19,20 +19,6 @@ pub struct Outcomes {
     pub kept: usize,
 }
 
-// The number whose binary digits are the first n symbols, modulo a prime.
-fn number_of(n: usize, row: &[u8; refusal::MOST_STATIONS]) -> usize {
-    let mut number: usize = 0;
-    let mut i: usize = 0;
-    while i < n {
-        if refusal::MOST_STATIONS <= i {
-            return number;
-        }
-        number = (2 * number + test_rows::wide(row[i])) % 10007;
-        i += 1;
-    }
-    number
-}
-
 // Whether a step is refused 20 or 22 and yet changed the record or counted trials.
 fn is_changed(said: u8, w: Walk, after: Walk, trials: u64) -> bool {
     if said < 20 {
@@ -87,10 +73,10 @@ pub fn outcome(w: Walk, allowance: u64) -> Outcomes {
         changed: test_rows::one_if(is_changed(said, w, after, step.trials)),
         misplaced: test_rows::one_if(is_misplaced(said, w, after, step.place)),
         trials: step.trials as usize,
-        rows: number_of(after.n, &row),
+        rows: test_walks::number_of(after.n, &row),
         places: test_walks::standing_place(at),
         carried: step.place,
-        kept: number_of(after.n, &kept),
+        kept: test_walks::number_of(after.n, &kept),
     }
 }
 

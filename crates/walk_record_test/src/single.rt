@@ -30,20 +30,6 @@ fn standing_of(letter: u8, place: usize) -> Standing {
     }
 }
 
-fn print_said(said: u8) {
-    match said {
-        0 => {
-            io::write_all(1, b": ring");
-        }
-        1 => {
-            io::write_all(1, b": none");
-        }
-        _ => {
-            test_rows::print_named(b": refused ", test_rows::wide(said));
-        }
-    }
-}
-
 // The place that a step carries, and the row kept after it.
 fn print_kept(step: Stepped) {
     let after = step.walk;
@@ -58,7 +44,7 @@ fn print_step(w: Walk, step: Stepped) {
     let at = after.at;
     let answer = step.answer;
     let standing = test_rows::wide(test_walks::standing_number(at));
-    print_said(test_walks::answer_number(answer));
+    test_walks::print_said(test_walks::answer_number(answer));
     test_rows::print_filled(b" trials # row ", &[step.trials as usize]);
     test_rows::print_row(after.n, &row);
     test_rows::print_filled(

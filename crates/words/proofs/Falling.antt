@@ -44,6 +44,10 @@ pub falling-front : (a b : List (List ℕ)) → Falling (a ++ b) → Falling a
 falling-front [] b f = falls-none
 falling-front (w ∷ a) b (falls-from h f) = falls-from (λ v m. h v (Memᴰ·append-left b m)) (falling-front a b f)
 
+pub falling-back : (a b : List (List ℕ)) → Falling (a ++ b) → Falling b
+falling-back [] b f = f
+falling-back (w ∷ a) b (falls-from h f) = falling-back a b f
+
 pub keep-falling : (p : List ℕ → Bool) {l : List (List ℕ)} → Falling l → Falling (keep p l)
 unfolding keep
 keep-falling p falls-none = falls-none

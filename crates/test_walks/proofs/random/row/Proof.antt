@@ -1,8 +1,8 @@
--- `walk_record_test::random::row` is safe and ends.
+-- `test_walks::random::row` is safe and ends.
 use Prim.Native.Nat.{_≤_, _-_}
 use borrow.Author.Needs.{needs}
-use Rattle.walk_record_test.proofs.random.row.Statement.{statement}
-use Rattle.walk_record_test.proofs.random.row.Tie as tie
+use Rattle.test_walks.proofs.random.row.Statement.{statement}
+use Rattle.test_walks.proofs.random.row.Tie as tie
 
 abbrev Inv-loop : tie.InvT-loop
 Inv-loop index n row₀ i₀ row i = i ≤ 64

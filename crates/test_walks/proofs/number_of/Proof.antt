@@ -1,10 +1,10 @@
--- `walk_record_test::outcomes::number_of` is safe and ends.
+-- `test_walks::number_of` is safe and ends.
 use Prim.Native.Nat.{_-_, _<_}
 use native.Mathlib.Nat.{mod-lt}
 use native.Mathlib.Omega.{arith}
 use borrow.Author.Needs.{needs}
-use Rattle.walk_record_test.proofs.outcomes.number_of.Statement.{statement}
-use Rattle.walk_record_test.proofs.outcomes.number_of.Tie as tie
+use Rattle.test_walks.proofs.number_of.Statement.{statement}
+use Rattle.test_walks.proofs.number_of.Tie as tie
 
 abbrev Inv-loop : tie.InvT-loop
 Inv-loop n row number₀ i₀ number i = number < 10007

@@ -1,9 +1,9 @@
--- `walk_record_test::random::drawn` is safe and ends.
+-- `test_walks::random::drawn` is safe and ends.
 use native.Mathlib.Nat.{mod-lt}
 use native.Mathlib.Omega.{arith}
 use borrow.Author.Needs.{needs}
-use Rattle.walk_record_test.proofs.random.drawn.Statement.{statement}
-use Rattle.walk_record_test.proofs.random.drawn.Tie as tie
+use Rattle.test_walks.proofs.random.drawn.Statement.{statement}
+use Rattle.test_walks.proofs.random.drawn.Tie as tie
 
 pub drawn-spec : {M : Type 1} → statement M
 drawn-spec =

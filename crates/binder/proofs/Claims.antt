@@ -1,0 +1,113 @@
+-- The claims on bookmarks hold.
+use mathlib.Core.Bool.{Bool, false, true, true≢false}
+use mathlib.Core.List.{List, [], map, _++_, _∷_}
+use mathlib.Core.Path.{ap, ap₂, refl, subst, sym, _∙_, _≡_}
+use native.Mathlib.Omega.{arith}
+use lib.ListN.{length, length-append}
+use Rattle.density.specs.Choose.{choose}
+use Rattle.listing.proofs.ListingLeft.{named-append}
+use Rattle.listing.specs.Listing.{listingAnswers}
+use Rattle.listing.specs.Places.{placed}
+use Rattle.listing.specs.Totals.{listingLeft, named}
+use Rattle.refusal.proofs.Conditions.{Tells, at-most-tells, chain-first, passed, test}
+use Rattle.walk.proofs.Demand.{answers-agree, handed-stands, stays-fit}
+use Rattle.walk.proofs.OpeningClaims.{ceiling, named-falling, never-unfit, opened-fit, opened-stands}
+use Rattle.walk.proofs.StepLists.{answers-append, handed-sizes, placed-append, placed-told}
+use Rattle.walk.specs.Claims.{answers, bookOf, given, opened, placedAnswers}
+use Rattle.walk.specs.Fit.{fit}
+use Rattle.walk.specs.Moves.{rules}
+use Rattle.walk.specs.Opening.{openWalk}
+use Rattle.walk.specs.Step.{handed, stepDue, toldBy, walkAnswers, walkPlaced}
+use Rattle.walk.specs.declared.Walk.{Walk}
+use Rattle.words.proofs.Falling.{falling-back}
+use Rattle.words.specs.Falling.{Falling}
+use Rattle.binder.proofs.StoodWalks.{all-stood}
+use Rattle.binder.specs.Calls.{Call, Held, Stretch, afterCalls, allowances, atFirst, callAnswers, calling, fetches, opens, puts, steps}
+use Rattle.binder.specs.Claims.{FetchRefusals, PutRefusals, StandsFit, Stood, StretchAnswers, StretchCeiling, StretchFalling, StretchListed, told}
+use Rattle.binder.specs.Names.{fetchVerdict, highestName, putVerdict, under}
+
+-- a test fails exactly where it is false
+false-tells : (b : Bool) → Tells b (b ≡ false)
+false-tells b = (λ e. e, λ e f. true≢false (sym e ∙ f))
+
+pub put-refusals : PutRefusals
+unfolding putVerdict
+put-refusals name w = chain-first (test _ (at-most-tells name highestName) (λ h. test _ (false-tells (fit rules w)) (λ f. passed)))
+
+pub fetch-refusals : FetchRefusals
+unfolding fetchVerdict
+fetch-refusals b name = chain-first (test _ (at-most-tells name highestName) (λ h. test _ (false-tells (under b name .put)) (λ f. passed)))
+
+-- ---- stretches
+
+pub stands-fit : StandsFit
+stands-fit calls = let s = all-stood calls in (s, subst (λ w. fit rules w ≡ true) (s .same) (never-unfit (s .from) (s .steps)))
+
+pub stretch-answers : StretchAnswers
+unfolding callAnswers walkPlaced allowances Stretch
+stretch-answers h [] t = refl
+stretch-answers h (steps a ∷ more) t =
+    let s = stepDue rules (h .walk) a in
+    ap (λ l. placed (toldBy s) (s .leaves) ∷ l) (stretch-answers (calling h (steps a)) more (t .1))
+stretch-answers h (puts name ∷ more) t = stretch-answers (calling h (puts name)) more (t .1)
+stretch-answers h (opens n d kind limit ∷ more) t = absurd (t .0)
+stretch-answers h (fetches name ∷ more) t = absurd (t .0)
+
+module _ (calls stretch : List Call) (t : Stretch stretch) where
+  abbrev held : Held
+  held = afterCalls atFirst calls
+
+  abbrev stood : Stood (held .walk)
+  stood = all-stood calls
+
+  -- what is told, in terms of the opening
+  told-on : walkAnswers rules (handed rules (opened (stood .from)) (stood .steps)) (allowances stretch) ≡ told held stretch
+  told-on =
+      ap (λ w. walkAnswers rules w (allowances stretch)) (stood .same)
+      ∙ sym (placed-told rules (held .walk) (allowances stretch))
+      ∙ ap (map (λ a. a .tells)) (sym (stretch-answers held stretch t))
+
+  booked : told held stretch ≡ listingAnswers (listingLeft (bookOf (stood .from)) (stood .steps)) (allowances stretch)
+  booked =
+      let f = opened-fit (stood .from) in
+      sym told-on
+      ∙ answers-agree rules _ (stays-fit rules _ f (stood .steps)) (allowances stretch)
+      ∙ ap (λ l. listingAnswers l (allowances stretch)) (handed-stands rules _ f (stood .steps) ∙ ap (λ l. listingLeft l (stood .steps)) (opened-stands (stood .from)))
+
+  follows : placedAnswers (stood .from) (stood .steps ++ allowances stretch) ≡ placedAnswers (stood .from) (stood .steps) ++ callAnswers held stretch
+  follows =
+      placed-append rules (opened (stood .from)) (stood .steps) (allowances stretch)
+      ∙ ap (λ l. placedAnswers (stood .from) (stood .steps) ++ l) (ap (λ w. walkPlaced rules w (allowances stretch)) (stood .same) ∙ sym (stretch-answers held stretch t))
+
+  -- the rings of a stretch are the last of those given since the opening
+  rings : given (stood .from) (stood .steps ++ allowances stretch) ≡ given (stood .from) (stood .steps) ++ named (told held stretch)
+  rings =
+      ap named (answers-append rules (opened (stood .from)) (stood .steps) (allowances stretch))
+      ∙ named-append (answers (stood .from) (stood .steps)) _
+      ∙ ap (λ l. given (stood .from) (stood .steps) ++ named l) told-on
+
+pub stretch-listed : StretchListed
+stretch-listed calls stretch t = record { stood = all-stood calls; booked = booked calls stretch t; follows = follows calls stretch t }
+
+pub stretch-falling : StretchFalling
+stretch-falling calls stretch t =
+    let s = all-stood calls in
+    falling-back (given (s .from) (s .steps)) _ (subst Falling (rings calls stretch t) (named-falling (s .from) (s .steps ++ allowances stretch)))
+
+-- the walk that stands has the sizes of its opening
+stood-sizes : (w : Walk) (s : Stood w) → (s .from .n ≡ w .n) × (s .from .d ≡ w .d)
+stood-sizes w s =
+    let o = s .from in
+    let h = handed-sizes rules (opened o) (s .steps) in (
+      sym (ap (λ v. openWalk v rules (o .n) (o .d) (o .kind) (o .limit) .n) (o .passed)) ∙ sym (h .0) ∙ ap (λ v. v .n) (s .same),
+      sym (ap (λ v. openWalk v rules (o .n) (o .d) (o .kind) (o .limit) .d) (o .passed)) ∙ sym (h .1) ∙ ap (λ v. v .d) (s .same),
+    )
+
+pub stretch-ceiling : StretchCeiling
+stretch-ceiling calls stretch t =
+    let h = afterCalls atFirst calls in
+    let s = all-stood calls in
+    let z = stood-sizes (h .walk) s in
+    let all = ap length (rings calls stretch t) ∙ length-append (given (s .from) (s .steps)) (named (told h stretch)) in
+    let most = ap₂ choose (z .0) (z .1) in
+    omega (arith, all, most, ceiling (s .from) (s .steps ++ allowances stretch))

@@ -1,0 +1,91 @@
+// What steps, puts and fetches say and leave, as numbers and compared.
+use crate::counts;
+use binder::Binder;
+use binder::BinderAnswer;
+use binder::Bookmark;
+use walk::Walk;
+
+// What a step says and hands back: a ring 0, none 1, or the refusal's number.
+pub struct Told {
+    pub walk: Walk,
+    pub said: u8,
+    pub place: usize,
+    pub trials: usize,
+}
+
+pub fn step(before: Walk, allowance: u64) -> Told {
+    let step = before.step(allowance);
+    let answer = step.answer;
+    let walk = step.walk;
+    Told {
+        walk,
+        said: test_walks::answer_number(answer),
+        place: step.place,
+        trials: step.trials as usize,
+    }
+}
+
+pub fn same_told(told: Told, other: Told) -> bool {
+    if told.said != other.said {
+        return false;
+    }
+    if told.place != other.place {
+        return false;
+    }
+    if told.trials != other.trials {
+        return false;
+    }
+    test_walks::same_walk(told.walk, other.walk)
+}
+
+// The number for done, or the refusal's.
+pub fn answer_number(answer: BinderAnswer, done: u8) -> u8 {
+    match answer {
+        BinderAnswer::Done => done,
+        BinderAnswer::Refused(r) => refusal::number(r),
+    }
+}
+
+// What a put is due to say.
+pub fn put_due(name: usize, walk: Walk) -> u8 {
+    if 7 < name {
+        return 12;
+    }
+    let told = step(walk, 1000);
+    if told.said == 22 {
+        return 22;
+    }
+    counts::PUT
+}
+
+// What a fetch is due to say, of a name under which something was put or not.
+pub fn fetch_due(name: usize, put: bool) -> u8 {
+    if 7 < name {
+        return 12;
+    }
+    if put { counts::FETCHED } else { 23 }
+}
+
+// Whether what stands under a name is the walk that was put here, or what stood there before.
+fn is_filed(before: Bookmark, after: Bookmark, here: bool, walk: Walk) -> bool {
+    if here {
+        return after.put && test_walks::same_walk(after.walk, walk);
+    }
+    if before.put != after.put {
+        return false;
+    }
+    test_walks::same_walk(before.walk, after.walk)
+}
+
+// How many names have another bookmark than is due, where a put under a name was done or refused.
+pub fn misfiled(before: Binder, after: Binder, name: usize, done: bool, walk: Walk) -> usize {
+    let old = before.bookmarks;
+    let new = after.bookmarks;
+    let mut count: usize = 0;
+    let mut i: usize = 0;
+    while i < binder::NAMES {
+        count += test_rows::one_if(!is_filed(old[i], new[i], done && i == name, walk));
+        i += 1;
+    }
+    count
+}
