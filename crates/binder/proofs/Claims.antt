@@ -21,10 +21,12 @@ use Rattle.walk.specs.Step.{handed, stepDue, toldBy, walkAnswers, walkPlaced}
 use Rattle.walk.specs.declared.Walk.{Walk}
 use Rattle.words.proofs.Falling.{falling-back}
 use Rattle.words.specs.Falling.{Falling}
+use Rattle.binder.proofs.LastPut.{fetches-last}
 use Rattle.binder.proofs.StoodWalks.{all-stood}
-use Rattle.binder.specs.Calls.{Call, Held, Stretch, afterCalls, allowances, atFirst, callAnswers, calling, fetches, opens, puts, steps}
-use Rattle.binder.specs.Claims.{FetchRefusals, PutRefusals, StandsFit, Stood, StretchAnswers, StretchCeiling, StretchFalling, StretchListed, told}
+use Rattle.binder.specs.Calls.{Call, Held, Stretch, afterCalls, allowances, atFirst, callAnswers, calling, fetches, opens, puts, putsIn, steps}
+use Rattle.binder.specs.Claims.{FetchRefusals, FetchesStood, PutRefusals, StandsFit, Stood, StretchAnswers, StretchCeiling, StretchFalling, StretchListed, told}
 use Rattle.binder.specs.Names.{fetchVerdict, highestName, putVerdict, under}
+use Rattle.binder.specs.Puts.{afterPuts, fetched}
 
 -- a test fails exactly where it is false
 false-tells : (b : Bool) → Tells b (b ≡ false)
@@ -37,6 +39,20 @@ put-refusals name w = chain-first (test _ (at-most-tells name highestName) (λ h
 pub fetch-refusals : FetchRefusals
 unfolding fetchVerdict
 fetch-refusals b name = chain-first (test _ (at-most-tells name highestName) (λ h. test _ (false-tells (under b name .put)) (λ f. passed)))
+
+-- ---- calls
+
+-- the binder after some calls is that after the puts among them
+calls-put : (h : Held) (calls : List Call) → afterCalls h calls .binder ≡ afterPuts (h .binder) (putsIn h calls)
+unfolding afterCalls afterPuts putsIn
+calls-put h [] = refl
+calls-put h (opens n d kind limit ∷ more) = calls-put (calling h (opens n d kind limit)) more
+calls-put h (steps a ∷ more) = calls-put (calling h (steps a)) more
+calls-put h (puts name ∷ more) = calls-put (calling h (puts name)) more
+calls-put h (fetches name ∷ more) = calls-put (calling h (fetches name)) more
+
+pub fetches-stood : FetchesStood
+fetches-stood calls name = ap (λ b. fetched b name) (calls-put atFirst calls) ∙ fetches-last (putsIn atFirst calls) name .last
 
 -- ---- stretches
 

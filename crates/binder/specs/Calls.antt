@@ -7,6 +7,7 @@ use Rattle.walk.specs.Opening.{openVerdict, openWalk, refusedWalk}
 use Rattle.walk.specs.Step.{stepDue, stepOf, toldBy}
 use Rattle.walk.specs.declared.Walk.{Walk}
 use Rattle.binder.specs.Names.{fetchOf, freshBinder, putOf}
+use Rattle.binder.specs.Puts.{Put}
 use Rattle.binder.specs.declared.Binder.{Binder}
 
 -- a call: a drawer is opened, the walk that stands is stepped or put under a name, or one is fetched
@@ -46,6 +47,17 @@ alsoAnswered h (fetches name) rest = rest
 unfoldable pub callAnswers : Held → List Call → List Placed
 callAnswers h [] = []
 callAnswers h (c ∷ more) = alsoAnswered h c (callAnswers (calling h c) more)
+
+-- the puts among some calls, each of the walk that stood there
+abbrev pub alsoPut : Held → Call → List Put → List Put
+alsoPut h (opens n d kind limit) rest = rest
+alsoPut h (steps a) rest = rest
+alsoPut h (puts name) rest = record { name = name; walk = h .walk } ∷ rest
+alsoPut h (fetches name) rest = rest
+
+unfoldable pub putsIn : Held → List Call → List Put
+putsIn h [] = []
+putsIn h (c ∷ more) = alsoPut h c (putsIn (calling h c) more)
 
 -- ---- "a stretch between fetches": steps and puts alone
 

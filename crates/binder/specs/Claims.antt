@@ -18,7 +18,7 @@ use Rattle.walk.specs.Step.{handed, walkAnswers, walkPlaced}
 use Rattle.walk.specs.ToCome.{stands}
 use Rattle.walk.specs.declared.Walk.{Walk}
 use Rattle.words.specs.Falling.{Falling}
-use Rattle.binder.specs.Calls.{Call, Held, Stretch, afterCalls, allowances, atFirst, callAnswers}
+use Rattle.binder.specs.Calls.{Call, Held, Stretch, afterCalls, allowances, atFirst, callAnswers, putsIn}
 use Rattle.binder.specs.Names.{fetchOf, fetchVerdict, filed, freshBinder, highestName, putOf, putVerdict, under}
 use Rattle.binder.specs.Puts.{Put, afterPuts, fetchDue, fetched}
 use Rattle.binder.specs.declared.Binder.{Binder}
@@ -67,6 +67,10 @@ abbrev pub FetchesLast : Type 0
 FetchesLast = (puts : List Put) (name : ℕ) → LastFetched puts name
 
 -- ---- openings, steps, puts and fetches mixed
+
+-- after any calls, a fetch gives the walk that stood at the last put under the name
+abbrev pub FetchesStood : Type 0
+FetchesStood = (calls : List Call) (name : ℕ) → fetched (afterCalls atFirst calls .binder) name ≡ fetchDue name (putsIn atFirst calls)
 
 -- a walk that some steps have brought about from an opening
 pub record Stood (w : Walk) : Type 0 where

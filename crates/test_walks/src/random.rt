@@ -1,7 +1,7 @@
 // Records at random, most of them near to what a walk hands back.
 use walk::Standing;
 use walk::Walk;
-ghost use Prim.Native.Nat.{_<_, _≤_};
+ghost use Prim.Native.Nat.{_<_};
 ghost use Rattle.refusal.specs.Verdicts.{mostStations};
 
 // The next number of a generator.
