@@ -13,9 +13,8 @@ use test_walks::random;
 use walk::Walk;
 ghost use Prim.Native.Nat.{_<_};
 
-// The walk that stands, and what stands in the model; the binder and the log of its puts; and what was counted.
+// The walk that stands, with its page; the binder and the log of its puts; and what was counted.
 pub struct Held {
-    pub walk: Walk,
     pub stand: Stand,
     pub binder: Binder,
     pub log: Log,
@@ -31,7 +30,6 @@ pub fn at_first(counts: Counts) -> Held {
         size: 0,
     };
     Held {
-        walk: Walk::refused(),
         stand,
         binder: Binder::fresh(),
         log,
@@ -63,9 +61,7 @@ pub fn opened(index: usize) -> Stand
 }
 
 pub fn opens(held: Held, stand: Stand) -> Held {
-    let walk = stand.walk;
     Held {
-        walk,
         stand,
         counts: counts::counted(held.counts, counts::OPENED, 0, 0, 0, 0),
         ..held
@@ -74,47 +70,41 @@ pub fn opens(held: Held, stand: Stand) -> Held {
 
 pub fn steps(held: Held, allowance: u64) -> Held {
     let stand = held.stand;
-    let page = stand.page;
+    let before = stand.page;
     let allowed = allowance as usize;
-    let told = compared::step(held.walk, allowance);
-    let other = compared::step(stand.walk, allowance);
+    let told = compared::step(stand.walk, allowance);
     let walk = told.walk;
-    let twin = other.walk;
-    let is_due = compared::same_told(told, model::due(page, allowed, other));
     let counts = counts::counted(
         held.counts,
         told.said,
         told.trials,
         told.place,
         counts::rows_of(walk),
-        test_rows::one_if(!is_due),
+        model::differing(before, allowed, told),
     );
+    let page = model::turned(before, allowed);
     Held {
-        walk,
-        stand: Stand {
-            walk: twin,
-            page: model::turned(page, allowed),
-        },
+        stand: Stand { walk, page },
         counts,
         ..held
     }
 }
 
-pub fn puts(held: Held, name: usize, walk: Walk, stand: Stand) -> Held {
+pub fn puts(held: Held, name: usize, stand: Stand) -> Held {
     let before = held.binder;
+    let walk = stand.walk;
     let filed = before.put(name, walk);
     let binder = filed.binder;
     let answer = filed.answer;
-    let twin = stand.walk;
     let said = compared::answer_number(answer, counts::PUT);
-    let due = compared::put_due(name, twin);
+    let due = compared::put_due(name, walk);
     let accepted = due == counts::PUT;
     let entry = Entry {
         name,
         accepted,
         stand,
     };
-    let misfiled = compared::misfiled(before, binder, name, accepted, twin);
+    let misfiled = compared::misfiled(before, binder, name, accepted, walk);
     let differing = test_walks::plus(misfiled, test_rows::one_if(said != due));
     Held {
         binder,
@@ -129,7 +119,7 @@ pub fn puts_record(held: Held, name: usize, index: usize) -> Held
 {
     let walk = random::record(index);
     let page = model::over(false);
-    puts(held, name, walk, Stand { walk, page })
+    puts(held, name, Stand { walk, page })
 }
 
 pub fn fetches(held: Held, name: usize) -> Held {
@@ -138,13 +128,13 @@ pub fn fetches(held: Held, name: usize) -> Held {
     let walk = fetched.walk;
     let answer = fetched.answer;
     let entry = model::last(held.log, name);
-    let stand = entry.stand;
+    let due = entry.stand;
+    let page = due.page;
     let said = compared::answer_number(answer, counts::FETCHED);
     let differing = test_rows::one_if(said != compared::fetch_due(name, entry.accepted))
-        + test_rows::one_if(!test_walks::same_walk(walk, stand.walk));
+        + test_rows::one_if(!test_walks::same_walk(walk, due.walk));
     Held {
-        walk,
-        stand,
+        stand: Stand { walk, page },
         counts: counts::counted(held.counts, said, 0, 0, counts::rows_of(walk), differing),
         ..held
     }

@@ -25,19 +25,6 @@ pub fn step(before: Walk, allowance: u64) -> Told {
     }
 }
 
-pub fn same_told(told: Told, other: Told) -> bool {
-    if told.said != other.said {
-        return false;
-    }
-    if told.place != other.place {
-        return false;
-    }
-    if told.trials != other.trials {
-        return false;
-    }
-    test_walks::same_walk(told.walk, other.walk)
-}
-
 // The number for done, or the refusal's.
 pub fn answer_number(answer: BinderAnswer, done: u8) -> u8 {
     match answer {

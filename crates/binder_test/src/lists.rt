@@ -33,7 +33,7 @@ fn call(held: Held, index: usize) -> Held
     match random::drawn(from, 0, 16) {
         0..=3 => calls::opens(held, calls::opened(from)),
         4..=9 => calls::steps(held, random::allowance(from)),
-        10..=12 => calls::puts(held, name, held.walk, held.stand),
+        10..=12 => calls::puts(held, name, held.stand),
         13 => calls::puts_record(held, name, index),
         _ => calls::fetches(held, name),
     }

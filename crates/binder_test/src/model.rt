@@ -15,7 +15,7 @@ pub struct Page {
     pub book: Book,
 }
 
-// A walk that was never in a binder, with its page.
+// A walk, with its page.
 pub struct Stand {
     pub walk: Walk,
     pub page: Page,
@@ -109,27 +109,26 @@ pub fn turned(page: Page, allowance: usize) -> Page {
     Page { book, ..page }
 }
 
-// The row of a ring, and that of none, is the line's.
-fn lined(w: Walk, said: u8, n: usize, number: usize) -> Walk {
-    if 1 < said {
-        return w;
+// Whether the walk's row is the book's, after a ring or none.
+fn is_lined(n: usize, book: Book, told: Told) -> bool {
+    if 1 < told.said {
+        return true;
     }
-    let row = test_rows::row_of_number(n, number);
-    Walk { row, ..w }
+    let walk = told.walk;
+    let row = walk.row;
+    let line = test_rows::row_of_number(n, book.number);
+    test_walks::same_row(&row, &line)
 }
 
-// What a step is due to say: what the walk's that was never in a binder says, by the page where it is known.
-pub fn due(page: Page, allowance: usize, told: Told) -> Told {
+// How much of what a step says is not by the page, where the book is known.
+pub fn differing(page: Page, allowance: usize, told: Told) -> usize {
     let n = page.n;
     let book = page.book;
     if !page.known {
-        return told;
+        return 0;
     }
-    let said = test_walks::book::says(book, allowance);
-    Told {
-        walk: lined(told.walk, said, n, book.number),
-        said,
-        place: test_walks::book::place(n, book, allowance),
-        trials: test_walks::book::trials(book, allowance),
-    }
+    test_rows::one_if(told.said != test_walks::book::says(book, allowance))
+        + test_rows::one_if(told.trials != test_walks::book::trials(book, allowance))
+        + test_rows::one_if(told.place != test_walks::book::place(n, book, allowance))
+        + test_rows::one_if(!is_lined(n, book, told))
 }
