@@ -11,9 +11,9 @@ use Rattle.listing.specs.Places.{placed}
 use Rattle.listing.specs.Totals.{listingLeft, named}
 use Rattle.refusal.proofs.Conditions.{Tells, at-most-tells, chain-first, passed, test}
 use Rattle.walk.proofs.Demand.{answers-agree, handed-stands, stays-fit}
-use Rattle.walk.proofs.OpeningClaims.{ceiling, named-falling, never-unfit, opened-fit, opened-stands}
+use Rattle.walk.proofs.OpeningClaims.{ceiling, named-falling, never-unfit, opened-fit, opened-stands, seats-given}
 use Rattle.walk.proofs.StepLists.{answers-append, handed-sizes, placed-append, placed-told}
-use Rattle.walk.specs.Claims.{answers, bookOf, given, opened, placedAnswers}
+use Rattle.walk.specs.Claims.{Opening, answers, bookOf, given, opened, placedAnswers}
 use Rattle.walk.specs.Fit.{fit}
 use Rattle.walk.specs.Moves.{rules}
 use Rattle.walk.specs.Opening.{openWalk}
@@ -21,10 +21,11 @@ use Rattle.walk.specs.Step.{handed, stepDue, toldBy, walkAnswers, walkPlaced}
 use Rattle.walk.specs.declared.Walk.{Walk}
 use Rattle.words.proofs.Falling.{falling-back}
 use Rattle.words.specs.Falling.{Falling}
+use Rattle.words.specs.Symbols.{ones}
 use Rattle.binder.proofs.LastPut.{fetches-last}
 use Rattle.binder.proofs.StoodWalks.{all-stood}
 use Rattle.binder.specs.Calls.{Call, Held, Stretch, afterCalls, allowances, atFirst, callAnswers, calling, fetches, opens, puts, putsIn, steps}
-use Rattle.binder.specs.Claims.{FetchRefusals, FetchesStood, PutRefusals, StandsFit, Stood, StretchAnswers, StretchCeiling, StretchFalling, StretchListed, told}
+use Rattle.binder.specs.Claims.{FetchRefusals, FetchesStood, PutRefusals, StandsFit, Stood, StretchAnswers, StretchCeiling, StretchFalling, StretchListed, StretchSeats, told}
 use Rattle.binder.specs.Names.{fetchVerdict, highestName, putVerdict, under}
 use Rattle.binder.specs.Puts.{afterPuts, fetched}
 
@@ -127,3 +128,9 @@ stretch-ceiling calls stretch t =
     let all = ap length (rings calls stretch t) ∙ length-append (given (s .from) (s .steps)) (named (told h stretch)) in
     let most = ap₂ choose (z .0) (z .1) in
     omega (arith, all, most, ceiling (s .from) (s .steps ++ allowances stretch))
+
+pub stretch-seats : StretchSeats
+stretch-seats h n d kind stretch passes t before ring more e =
+    let o : Opening = record { n = n; d = d; kind = kind; limit = ones n; passed = passes } in
+    let same = ap named (sym (placed-told rules (opened o) (allowances stretch)) ∙ ap (map (λ a. a .tells)) (sym (stretch-answers (calling h (opens n d kind (ones n))) stretch t))) in
+    seats-given o (allowances stretch) before ring more (same ∙ e)

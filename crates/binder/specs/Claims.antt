@@ -1,10 +1,11 @@
 -- What document 02 claims of bookmarks, each claim as a statement of its own.
 use mathlib.Core.Bool.{false, true}
-use mathlib.Core.List.{List, map, _++_}
+use mathlib.Core.List.{List, map, _++_, _∷_}
 use mathlib.Core.Path.{_≡_}
-use Prim.Native.Nat.{suc, ℕ, _<_, _≤_}
+use Prim.Native.Nat.{suc, ℕ, _+_, _-_, _<_, _≤_}
 use lib.ListN.{length}
 use Rattle.density.specs.Choose.{choose}
+use Rattle.density.specs.Ranks.{rank, ringCount}
 use Rattle.listing.specs.Listing.{Told, listingAnswers}
 use Rattle.listing.specs.Totals.{listingLeft, named}
 use Rattle.refusal.specs.Conditions.{Conditions, FirstOf, no-more, when}
@@ -14,11 +15,13 @@ use Rattle.refusal.specs.declared.Refusal.the-variants.{Name, NothingPut, Unfit
 use Rattle.walk.specs.Claims.{Opening, Record, bookOf, opened, placedAnswers}
 use Rattle.walk.specs.Fit.{fit}
 use Rattle.walk.specs.Moves.{rules}
+use Rattle.walk.specs.Opening.{openVerdict}
 use Rattle.walk.specs.Step.{handed, walkAnswers, walkPlaced}
 use Rattle.walk.specs.ToCome.{stands}
 use Rattle.walk.specs.declared.Walk.{Walk}
 use Rattle.words.specs.Falling.{Falling}
-use Rattle.binder.specs.Calls.{Call, Held, Stretch, afterCalls, allowances, atFirst, callAnswers, putsIn}
+use Rattle.words.specs.Symbols.{ones}
+use Rattle.binder.specs.Calls.{Call, Held, Stretch, afterCalls, allowances, atFirst, callAnswers, calling, opens, putsIn}
 use Rattle.binder.specs.Names.{fetchOf, fetchVerdict, filed, freshBinder, highestName, putOf, putVerdict, under}
 use Rattle.binder.specs.Puts.{Put, afterPuts, fetchDue, fetched}
 use Rattle.binder.specs.declared.Binder.{Binder}
@@ -112,3 +115,11 @@ abbrev pub StretchCeiling : Type 0
 StretchCeiling =
     (calls stretch : List Call) → Stretch stretch → let h = afterCalls atFirst calls in
     length (named (told h stretch)) ≤ choose (h .walk .n) (h .walk .d)
+
+-- "The r-th ring of a walk from n ones, in which no bookmark was fetched, has seat total + 1 - r": whatever is held, a drawer is opened from
+-- n ones, and a stretch follows
+abbrev pub StretchSeats : Type 0
+StretchSeats =
+    (h : Held) (n d kind : ℕ) (stretch : List Call) → openVerdict n d kind (ones n) ≡ accepted → Stretch stretch
+    → (before : List (List ℕ)) (ring : List ℕ) (more : List (List ℕ)) → named (told (calling h (opens n d kind (ones n))) stretch) ≡ before ++ (ring ∷ more)
+    → let r = length before + 1 in rank n d kind ring ≡ ringCount n d kind + 1 - r

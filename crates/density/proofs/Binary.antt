@@ -4,12 +4,15 @@ use mathlib.Core.List.{List, [], _++_, _∷_}
 use mathlib.Core.Path.{refl, _≡_}
 use Prim.Native.Nat.{suc, zero, ℕ, _≤_}
 use native.Mathlib.Omega.{arith}
+use lib.Dec.{lit<}
 use lib.ListN.{getD, length, replicate, set}
 use Rattle.density.specs.Density.{density}
 use Rattle.words.proofs.Alphabet.{within-set, within-tail}
+use Rattle.words.proofs.AtMost.{equal, lower, ≼-there, _≼_}
+use Rattle.words.proofs.Below.{here}
 use Rattle.words.proofs.HighestSymbol.{up-to→, →up-to}
 use Rattle.words.proofs.Wrong.{right-within, within-right}
-use Rattle.words.specs.Symbols.{Within, allUpTo, firstWrong, sum}
+use Rattle.words.specs.Symbols.{Within, allUpTo, firstWrong, ones, sum}
 
 pub data Binary : List ℕ → Type 0 where
   empty : Binary []
@@ -92,3 +95,12 @@ unfolding sum
 binary-sum empty = omega arith
 binary-sum (zero∷ x) = omega (arith, binary-sum x)
 binary-sum (one∷ x) = omega (arith, binary-sum x)
+
+-- the highest row of k zeros and ones
+pub ones-most : {w : List ℕ} → Binary w → (k : ℕ) → length w ≡ k → w ≼ ones k
+ones-most empty zero l = equal refl
+ones-most empty (suc k) l = absurd (omega arith)
+ones-most (zero∷ b) zero l = absurd (omega arith)
+ones-most (zero∷ b) (suc k) l = lower (here (lit< tt))
+ones-most (one∷ b) zero l = absurd (omega arith)
+ones-most (one∷ b) (suc k) l = ≼-there 1 (ones-most b k (omega arith))

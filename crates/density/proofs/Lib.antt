@@ -23,6 +23,8 @@ pub mod RowsBelow
 pub mod Branching
 pub mod LastSymbol
 pub mod Wanted
+-- the rank of a row, and the ring of a rank
+pub mod RankedRings
 -- the verdicts on a drawer and a limit
 pub mod DrawerVerdicts
 -- a row in an array

@@ -19,7 +19,7 @@ use Rattle.words.specs.Rotation.{rotation}
 -- ---- what adds up over the parts of a row is the same for all rows of a ring
 
 module _ (f : List ℕ → ℕ) (add : (a b : List ℕ) → f (a ++ b) ≡ f a + f b) where
-  sum-rotation : (j : ℕ) (w : List ℕ) → f (rotation j w) ≡ f w
+  pub sum-rotation : (j : ℕ) (w : List ℕ) → f (rotation j w) ≡ f w
   unfolding rotation
   sum-rotation j w = omega (arith, add (drop j w) (take j w), add (take j w) (drop j w), ap f (take-append-drop j w))
 
@@ -33,7 +33,7 @@ module _ (f : List ℕ → ℕ) (add : (a b : List ℕ) → f (a ++ b) ≡ f a +
 
 -- ---- and so is the alphabet
 
-binary-rotation : (j : ℕ) (w : List ℕ) → Binary w → Binary (rotation j w)
+pub binary-rotation : (j : ℕ) (w : List ℕ) → Binary w → Binary (rotation j w)
 unfolding rotation
 binary-rotation j w b =
     let parts : Binary (take j w ++ drop j w) = subst Binary (sym (take-append-drop j w)) b in

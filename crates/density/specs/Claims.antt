@@ -3,13 +3,15 @@ use mathlib.Core.Bool.{true}
 use mathlib.Core.List.{List, List·Memᴰ}
 use mathlib.Core.Logic.{_↔_}
 use mathlib.Core.Path.{_≡_}
-use Prim.Native.Nat.{suc, ℕ, _+_, _<_}
+use Prim.Native.Nat.{suc, ℕ, _+_, _<_, _≤_}
 use lib.ListN.{length}
 use Rattle.density.specs.Choose.{choose, rowsOf}
 use Rattle.density.specs.Density.{density}
 use Rattle.density.specs.Necklaces.{necklaces, necklacesOfKind}
+use Rattle.density.specs.Ranks.{necklaceAt, rank, ringCount}
 use Rattle.words.specs.Symbols.{Within}
 use Rattle.words.specs.Falling.{Falling}
+use Rattle.words.specs.Order.{lt}
 use Rattle.words.specs.Reversal.{SameRing, turnedKey}
 use Rattle.words.specs.Rotation.{isLyndon, isNecklace}
 
@@ -53,3 +55,27 @@ abbrev pub TurnedInDrawer : Type 0
 TurnedInDrawer =
     (n d : ℕ) (w : List ℕ) → 0 < n → OfDensity n d w
     → List·Memᴰ (turnedKey w) (necklacesOfKind 3 n d) × ((v : List ℕ) → List·Memᴰ v (necklacesOfKind 3 n d) → SameRing w v → v ≡ turnedKey w)
+
+-- ---- seat numbers
+
+-- "The total": n ones have as many rings at or below them as there are.
+abbrev pub AllRanked : Type 0
+AllRanked = (n d kind : ℕ) → ringCount n d kind ≡ length (necklacesOfKind kind n d)
+
+-- "A ring fetched by its seat has that seat", for every seat from 1 to the total; it is a ring of the drawer and kind.
+abbrev pub SeatOfRing : Type 0
+SeatOfRing =
+    (n d kind seat : ℕ) → 1 ≤ seat → seat ≤ ringCount n d kind
+    → List·Memᴰ (necklaceAt n d kind seat) (necklacesOfKind kind n d) × (rank n d kind (necklaceAt n d kind seat) ≡ seat)
+
+-- "The ring at the seat of a ring is that ring", and its seat is one of those.
+abbrev pub RingAtSeat : Type 0
+RingAtSeat =
+    (n d kind : ℕ) (w : List ℕ) → List·Memᴰ w (necklacesOfKind kind n d) → let seat = rank n d kind w in
+    (1 ≤ seat) × (seat ≤ ringCount n d kind) × (necklaceAt n d kind seat ≡ w)
+
+-- "1 being the lowest": the higher a row, the higher its seat or the same, and of two rings the higher has the higher seat
+abbrev pub SeatsRise : Type 0
+SeatsRise =
+    (n d kind : ℕ) (v w : List ℕ) → lt v w ≡ true
+    → (rank n d kind v ≤ rank n d kind w) × (List·Memᴰ w (necklacesOfKind kind n d) → rank n d kind v < rank n d kind w)

@@ -1,4 +1,5 @@
 -- A drawer of a kind, (n, d, kind), and with a limit, (n, d, kind, limit): what is refused of them.
+use mathlib.Core.Bool.{Bool}
 use mathlib.Core.List.{List}
 use mathlib.Core.Path.{_≡_}
 use Prim.Native.Nat.{ℕ, _<_, _≤_}
@@ -12,20 +13,21 @@ use Rattle.refusal.specs.Verdicts.{Verdict, accepted, refused, need, areStation
 use Rattle.density.specs.Necklaces.{isKind}
 use Rattle.density.specs.declared.drawers.Checked.{Checked}
 
--- 1, 2 and 5, in that order, before the rest
-abbrev pub drawerNeeds : ℕ → ℕ → ℕ → Verdict → Verdict
-drawerNeeds n d kind rest = need (areStations n) Stations (need (leb d n) Holes (need (isKind kind) Kind rest))
+-- 1, 2 and 5, in that order, before the rest; whether the kind is one that is taken
+abbrev pub drawerNeeds : ℕ → ℕ → Bool → Verdict → Verdict
+drawerNeeds n d taken rest = need (areStations n) Stations (need (leb d n) Holes (need taken Kind rest))
+
+-- 4 and 3 of a row
+abbrev pub rowNeeds : ℕ → List ℕ → Verdict
+rowNeeds n row = need (eqb (length row) n) Limit (need (eqb (firstWrong 2 row) 0) (Symbol (firstWrong 2 row)) accepted)
 
 -- "Refusals 1, 2 and 5 apply, in that order."
 unfoldable pub drawerVerdict : ℕ → ℕ → ℕ → Verdict
-drawerVerdict n d kind = drawerNeeds n d kind accepted
+drawerVerdict n d kind = drawerNeeds n d (isKind kind) accepted
 
 -- "Orders. Open: 1, 2, 5, 4, 3."
 unfoldable pub openVerdict : ℕ → ℕ → ℕ → List ℕ → Verdict
-openVerdict n d kind limit =
-    drawerNeeds n d kind
-    (need (eqb (length limit) n) Limit
-    (need (eqb (firstWrong 2 limit) 0) (Symbol (firstWrong 2 limit)) accepted))
+openVerdict n d kind limit = drawerNeeds n d (isKind kind) (rowNeeds n limit)
 
 -- the verdict that each answer of a check tells
 abbrev pub checkedVerdict : Checked → Verdict
@@ -38,16 +40,17 @@ checkedVerdict (Checked.Refused r) = refused r
 abbrev pub NoKind : ℕ → Type 0
 NoKind kind = NotOneTo 3 kind
 
--- 1, 2 and 5, before the rest
-abbrev pub drawerConditions : ℕ → ℕ → ℕ → Conditions → Conditions
-drawerConditions n d kind rest = when (NoStations n) Stations (when (n < d) Holes (when (NoKind kind) Kind rest))
+-- 1, 2 and 5, before the rest; the kind is none that is taken
+abbrev pub drawerConditions : ℕ → ℕ → Type 0 → Conditions → Conditions
+drawerConditions n d NotTaken rest = when (NoStations n) Stations (when (n < d) Holes (when NotTaken Kind rest))
+
+-- 4 and 3 of a row
+abbrev pub rowConditions : ℕ → List ℕ → Conditions
+rowConditions n row = when (length row ≡ n → ⊥) Limit (when (FirstOther 2 row (firstWrong 2 row)) (Symbol (firstWrong 2 row)) no-more)
 
 -- 1, 2, 5, 4, 3
 abbrev pub openConditions : ℕ → ℕ → ℕ → List ℕ → Conditions
-openConditions n d kind limit =
-    drawerConditions n d kind
-    (when (length limit ≡ n → ⊥) Limit
-    (when (FirstOther 2 limit (firstWrong 2 limit)) (Symbol (firstWrong 2 limit)) no-more))
+openConditions n d kind limit = drawerConditions n d (NoKind kind) (rowConditions n limit)
 
 -- none of the conditions for the input
 pub record NoCondition (n d kind : ℕ) (limit : List ℕ) : Type 0 where

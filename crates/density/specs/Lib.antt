@@ -3,6 +3,7 @@ pub mod Density
 pub mod Choose
 pub mod Rows
 pub mod Necklaces
+pub mod Ranks
 pub mod InnerBalanced
 pub mod Blocks
 pub mod Drawers

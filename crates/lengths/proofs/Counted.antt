@@ -2,23 +2,18 @@
 use mathlib.Core.Path.{_≡_}
 use Prim.Native.Nat.{ℕ, _≤_}
 use native.Mathlib.Omega.{arith}
-use lib.Dec.{leb}
-use borrow.Author.Tests.{le-leb, leb-true}
+use Rattle.density.proofs.DrawerVerdicts.{drawer→}
 use Rattle.density.specs.Drawers.{drawerVerdict}
+use Rattle.density.specs.Necklaces.{isKind}
+use Rattle.pascal.proofs.LookUp.{in-table}
 use Rattle.pascal.specs.Answers.{waysVerdict}
 use Rattle.pascal.specs.Pascal.{lastRow}
-use Rattle.refusal.proofs.Conditions.{need→}
-use Rattle.refusal.proofs.Stations.{stations→}
-use Rattle.refusal.specs.Verdicts.{accepted, areStations}
+use Rattle.refusal.specs.Verdicts.{accepted}
 
 module _ (n d kind : ℕ) (e : drawerVerdict n d kind ≡ accepted) where
   pub within : (n ≤ lastRow) × (d ≤ n)
   unfolding drawerVerdict
-  within =
-      let a = need→ (areStations n) _ _ e in
-      let b = need→ (leb d n) _ _ (a .1) in
-      (omega (arith, stations→ n (a .0) .most), leb-true d n (b .0))
+  within = let i = drawer→ n d (isKind kind) accepted e .0 in (omega (arith, i .sized .most), i .dense)
 
   pub counted : waysVerdict n d ≡ accepted
-  unfolding waysVerdict
-  counted = rw (le-leb n lastRow (within .0), le-leb d n (within .1))
+  counted = in-table n d (within .0) (within .1)

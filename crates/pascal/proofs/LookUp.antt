@@ -4,7 +4,7 @@ use Prim.Native.Nat.{suc, ℕ, _*_, _+_, _≤_}
 use native.Mathlib.Nat.{mul-le-mul}
 use native.Mathlib.Omega.{arith}
 use lib.Dec.{leb}
-use borrow.Author.Tests.{leb-true}
+use borrow.Author.Tests.{le-leb, leb-true}
 use Rattle.density.specs.Choose.{choose}
 use Rattle.pascal.proofs.Rows.{entry-chosen}
 use Rattle.pascal.specs.Answers.{waysVerdict}
@@ -28,3 +28,8 @@ inside top bottom e =
 
 pub looked-up : (top bottom : ℕ) → decide (waysVerdict top bottom) (entryOf (triangle (suc lastRow)) top bottom) ≡ decide (waysVerdict top bottom) (choose top bottom)
 looked-up top bottom = decide-on (waysVerdict top bottom) (inside top bottom)
+
+-- nothing is refused within the table
+pub in-table : (top bottom : ℕ) → top ≤ lastRow → bottom ≤ top → waysVerdict top bottom ≡ accepted
+unfolding waysVerdict
+in-table top bottom h k = rw (le-leb top lastRow h, le-leb bottom top k)

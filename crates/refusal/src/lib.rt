@@ -31,6 +31,8 @@ pub enum Refusal {
     ZeroPitch(usize),
     // a name above 7
     Name,
+    // seat 0, or above the total
+    Seat,
     // the walk has ended
     Ended,
     // allowance spent
@@ -65,6 +67,7 @@ pub fn number(r: Refusal) -> u8
         Refusal::Text(_) => 10,
         Refusal::ZeroPitch(_) => 11,
         Refusal::Name => 12,
+        Refusal::Seat => 13,
         Refusal::Ended => 20,
         Refusal::Spent => 21,
         Refusal::Unfit => 22,
@@ -89,6 +92,7 @@ pub fn place(r: Refusal) -> usize
         Refusal::Text(line) => line,
         Refusal::ZeroPitch(p) => p,
         Refusal::Name => 0,
+        Refusal::Seat => 0,
         Refusal::Ended => 0,
         Refusal::Spent => 0,
         Refusal::Unfit => 0,

@@ -1,5 +1,5 @@
 -- The starred specimens of document 01, with the places of M-100, the pitches of M-110, the pairs of M-130, rings of M-140 that are turned
--- over and a bookmark of M-150, and what each says of the definitions.
+-- over, a bookmark of M-150 and seats of M-160, and what each says of the definitions.
 use mathlib.Core.Path.{_≡_}
 use mathlib.Core.Bool.{Bool, true, false}
 use mathlib.Core.List.{List, [], _∷_, _++_}
@@ -13,6 +13,7 @@ use Rattle.words.specs.Symbols.{ones, zeros}
 use Rattle.words.specs.declared.Order.{Order}
 use Rattle.words.specs.declared.Order.the-variants.{Higher, Lower}
 use Rattle.density.specs.Necklaces.{begins, largestNecklace}
+use Rattle.density.specs.Ranks.{necklaceAt, rank}
 use Rattle.binder.specs.Calls.{Call, atFirst, callAnswers, fetches, opens, puts, steps}
 use Rattle.listing.specs.Listing.{Line, ring, none, refused, says, told}
 use Rattle.listing.specs.Places.{Placed, placed}
@@ -36,6 +37,10 @@ pub data Specimen : Type 0 where
   turned : List ℕ → List ℕ → Specimen
   -- two rows: one ring, turning over allowed, yes or no
   fits : List ℕ → List ℕ → Bool → Specimen
+  -- drawer (n, d), kind: the seat of a row
+  seat : ℕ → ℕ → ℕ → List ℕ → ℕ → Specimen
+  -- drawer (n, d), kind: the ring at a seat
+  ringAt : ℕ → ℕ → ℕ → ℕ → List ℕ → Specimen
   -- drawer (n, d), kind, limit: the first answer of the walk that opening hands out, its place and its trials
   step : ℕ → ℕ → ℕ → List ℕ → Line → ℕ → ℕ → Specimen
   -- openings, steps, puts and fetches: the answers of the steps
@@ -50,6 +55,8 @@ Says (pitches w list) = pitchesOfRow w ≡ list
 Says (compared a b order place number) = (orderOf (cmp a b) ≡ order) × (firstDifference a b ≡ place) × (pairs a b ≡ number)
 Says (turned w k) = turnedKey w ≡ k
 Says (fits a b answer) = oneRing a b ≡ answer
+Says (seat n d kind w number) = rank n d kind w ≡ number
+Says (ringAt n d kind number w) = necklaceAt n d kind number ≡ w
 Says (step n d kind limit line place trials) =
     walkPlaced rules (openWalk (openVerdict n d kind limit) rules n d kind limit) (100 ∷ []) ≡ placed (told (says line) trials) place ∷ []
 Says (calls cs answers) = callAnswers atFirst cs ≡ answers
@@ -74,6 +81,10 @@ starred =
     ∷ turned (0 ∷ 0 ∷ 1 ∷ 1 ∷ 0 ∷ 1 ∷ []) (0 ∷ 0 ∷ 1 ∷ 0 ∷ 1 ∷ 1 ∷ [])
     ∷ fits (0 ∷ 0 ∷ 1 ∷ 0 ∷ 1 ∷ 1 ∷ []) (1 ∷ 0 ∷ 1 ∷ 0 ∷ 0 ∷ 1 ∷ []) true
     ∷ fits (0 ∷ 0 ∷ 1 ∷ 0 ∷ 1 ∷ 1 ∷ []) (0 ∷ 0 ∷ 0 ∷ 1 ∷ 1 ∷ 1 ∷ []) false
+    ∷ seat 6 3 1 (0 ∷ 0 ∷ 1 ∷ 1 ∷ 1 ∷ 0 ∷ []) 3
+    ∷ seat 6 3 1 (ones 6) 4
+    ∷ seat 6 3 2 (ones 6) 3
+    ∷ ringAt 6 3 1 3 (0 ∷ 0 ∷ 1 ∷ 1 ∷ 0 ∷ 1 ∷ [])
     ∷ step 8 3 1 (0 ∷ 0 ∷ 0 ∷ 1 ∷ 1 ∷ 0 ∷ 0 ∷ 0 ∷ []) (ring (0 ∷ 0 ∷ 0 ∷ 1 ∷ 0 ∷ 1 ∷ 0 ∷ 1 ∷ [])) 5 4
     ∷ step 8 3 1 (0 ∷ 0 ∷ 1 ∷ 0 ∷ 0 ∷ 1 ∷ 0 ∷ 0 ∷ []) (ring (0 ∷ 0 ∷ 0 ∷ 1 ∷ 1 ∷ 0 ∷ 0 ∷ 1 ∷ [])) 3 7
     ∷ step 8 3 1 (0 ∷ 0 ∷ 0 ∷ 0 ∷ 0 ∷ 1 ∷ 1 ∷ 0 ∷ []) none 0 2

@@ -93,4 +93,5 @@ module _ (R : Rules) (n d kind : ℕ) (limit : List ℕ) (o : Admitted R n d kin
 pub accepted-opening : (n d kind : ℕ) (limit : List ℕ) → openVerdict n d kind limit ≡ accepted → Admitted rules n d kind limit
 accepted-opening n d kind limit e =
     let p = accepted→ n d kind limit e in
-    record { stations = p .sized .some; most = p .sized .most; dense = p .dense; kinds = p .kinds; long = p .long; binary = p .binary }
+    let i = p .drawer in
+    record { stations = i .sized .some; most = i .sized .most; dense = i .dense; kinds = i .kinds; long = p .long; binary = p .binary }

@@ -1,14 +1,15 @@
 -- The claims on opening a walk, and on the steps that follow, hold.
 use mathlib.Core.Bool.{_&&_}
-use mathlib.Core.List.{List, [], append-cancel-left, append-nil, _++_, _∷_}
+use mathlib.Core.List.{List, [], append-assoc, append-cancel-left, append-nil, _++_, _∷_}
 use mathlib.Core.Logic.{inl, inr, _↔_}
 use mathlib.Core.Path.{ap, refl, subst, sym, _∙_, _≡_}
 use Prim.Native.Nat.{suc, zero, ℕ, _*_, _-_, _<_, _^_, _≤_}
 use native.Mathlib.Omega.{arith}
 use lib.ListN.{length, length-append}
 use Rattle.density.proofs.Binary.{binary-within}
-use Rattle.density.proofs.DrawerVerdicts.{drawer-chain}
+use Rattle.density.proofs.DrawerVerdicts.{drawer-chain, kind-tells, row-chain}
 use Rattle.density.proofs.KindTests.{kinds-known}
+use Rattle.density.proofs.RankedRings.{rank-wanted}
 use Rattle.density.proofs.RowCounts.{few-rings}
 use Rattle.density.proofs.Wanted.{first-ring, next-ring, rings-falling}
 use Rattle.density.specs.Necklaces.{ofKind}
@@ -22,27 +23,25 @@ use Rattle.listing.proofs.TrialBounds.{kind-1-prices, kind-2-prices, starts-few
 use Rattle.listing.specs.Listing.{Listing, book, listingAnswers, listingStep, over, refused}
 use Rattle.listing.specs.Places.{leaving, ringPlaces}
 use Rattle.listing.specs.Totals.{AtMost, SaysNone, allTrials, listingLeft, named, ringsOf}
-use Rattle.refusal.proofs.Conditions.{accepted-exactly, chain-first, equal-tells, passed, test}
+use Rattle.refusal.proofs.Conditions.{accepted-exactly, chain-first}
 use Rattle.refusal.specs.Conditions.{NoStations, NoneHolds}
 use Rattle.refusal.specs.Verdicts.{accepted}
 use Rattle.walk.proofs.Demand.{Admitted, accepted-opening, answers-agree, fresh-fit, fresh-kept, fresh-stands, handed-stands, stays-fit}
 use Rattle.walk.proofs.Invariant.{Fit}
 use Rattle.walk.proofs.Places.{answers-placed}
 use Rattle.walk.proofs.StepAgrees.{step-agrees}
-use Rattle.walk.specs.Claims.{AllTrials, Ceiling, Demand3, Demand3Places, EndedNext, FirstRing, Kind1Trials, Kind2Trials, NamedAll, NamedFalling, NeverSpent, NeverSpentInAny, NeverUnfit, NextRing, NoneNext, OpenAccepts, OpenRefusals, Opening, RingNext, RingPlaces, SpentNext, TakenAlike, TakenListed, TrialsNext, answers, bookOf, given, next, opened, wantedOf}
+use Rattle.walk.specs.Claims.{AllTrials, Ceiling, Demand3, Demand3Places, EndedNext, FirstRing, Kind1Trials, Kind2Trials, NamedAll, NamedFalling, NeverSpent, NeverSpentInAny, NeverUnfit, NextRing, NoneNext, OpenAccepts, OpenRefusals, Opening, RingNext, RingPlaces, SeatsGiven, SpentNext, TakenAlike, TakenListed, TrialsNext, answers, bookOf, given, next, opened, wantedOf}
 use Rattle.walk.specs.Moves.{keptOf, rules}
 use Rattle.walk.specs.Opening.{NoCondition, NoKind, fresh, openConditions, openVerdict, openWalk}
 use Rattle.walk.specs.Step.{handed}
 use Rattle.walk.specs.ToCome.{stands}
-use Rattle.words.proofs.Claims.{other-tells}
 use Rattle.words.specs.Order.{le}
 
 -- ---- opening
 
 pub open-refusals : OpenRefusals
 unfolding openVerdict
-open-refusals n d kind limit =
-    chain-first (drawer-chain n d kind (test _ (equal-tells (length limit) n) (λ e. test _ (other-tells 2 limit) (λ f. passed))))
+open-refusals n d kind limit = chain-first (drawer-chain n d (kind-tells kind) (row-chain n limit))
 
 pub open-accepts : OpenAccepts
 open-accepts n d kind limit = (admits, λ c. accepted-exactly (openConditions n d kind limit) _ (open-refusals n d kind limit) .1 (none-holds c))
@@ -141,6 +140,12 @@ pub ceiling : Ceiling
 ceiling o steps =
     let all = sym (length-append (given o steps) (ringsOf (left o steps))) ∙ ap length (given-left o steps) in
     omega (arith, all, few-rings (o .n) (o .d) (λ r. le r (o .limit) && ofKind (o .kind) r))
+
+pub seats-given : SeatsGiven
+seats-given o steps before ring more e =
+    let left = ringsOf (left o steps) in
+    let all : wantedOf o ≡ before ++ (ring ∷ (more ++ left)) = sym (given-left o steps) ∙ ap (λ t. t ++ left) e ∙ append-assoc before (ring ∷ more) left in
+    omega (arith, rank-wanted (o .n) (o .d) (o .kind) (o .limit) before ring (more ++ left) all)
 
 pub ring-next : RingNext
 ring-next o steps a r = (

@@ -7,6 +7,7 @@ use Prim.Native.Nat.{ℕ, _*_, _+_, _-_, _<_, _^_, _≤_}
 use lib.ListN.{length}
 use Rattle.density.specs.Choose.{choose}
 use Rattle.density.specs.Necklaces.{necklaces, ofKind, wanted}
+use Rattle.density.specs.Ranks.{rank}
 use Rattle.refusal.specs.Conditions.{FirstOf}
 use Rattle.refusal.specs.Verdicts.{accepted, mostStations}
 use Rattle.walk.specs.Fit.{FitRecord, fit}
@@ -174,6 +175,13 @@ NamedAll = (o : Opening) (steps : List ℕ) → SaysNone (answers o steps) → g
 -- "A walk from any limit must yield at most that many": the ways to choose d stations of n, whatever the kind and the allowances
 abbrev pub Ceiling : Type 0
 Ceiling = (o : Opening) (steps : List ℕ) → length (given o steps) ≤ choose (o .n) (o .d)
+
+-- "The r-th ring of a walk from n ones .. has seat total + 1 - r", whatever the allowances; of a walk from any limit, with the limit's seat
+-- for the total, which is the seat of n ones
+abbrev pub SeatsGiven : Type 0
+SeatsGiven =
+    (o : Opening) (steps : List ℕ) (before : List (List ℕ)) (ring : List ℕ) (more : List (List ℕ)) → given o steps ≡ before ++ (ring ∷ more)
+    → let seat = rank (o .n) (o .d) (o .kind) in let r = length before + 1 in seat ring ≡ seat (o .limit) + 1 - r
 
 -- what a step with this allowance says after these, with its trials; and the trials that the book then owes
 abbrev pub next : Opening → List ℕ → ℕ → Told

@@ -9,6 +9,7 @@ pub mod Booleans
 pub mod Bounded
 pub mod Lists
 pub mod Falling
+pub mod UpTo
 -- parts of rows, Lyndon words, powers, necklaces
 pub mod Induction
 pub mod Cut

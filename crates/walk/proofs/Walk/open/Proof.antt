@@ -24,7 +24,7 @@ checked : (c : tie.After-enum-told) → let a = c .before .before .before .befor
 checked c = accepted→ _ _ _ _ (passes c)
 
 padded-requires : tie.Need-padded-requires
-padded-requires c κs = let p = checked c in omega (arith, p .long, p .sized .most)
+padded-requires c κs = let p = checked c in omega (arith, p .long, p .drawer .sized .most)
 
 returns-2 : tie.Need-returns-2
 returns-2 c =

@@ -1,0 +1,1 @@
+// Necklaces counted: definitions and laws only.

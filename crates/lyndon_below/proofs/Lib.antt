@@ -1,0 +1,2 @@
+-- the table of Lyndon words
+pub mod LyndonTable

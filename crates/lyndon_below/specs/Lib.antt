@@ -1,0 +1,2 @@
+-- The table of Lyndon words.
+pub mod InnerTables

@@ -1,0 +1,4 @@
+-- Seat numbers.
+pub mod Answers
+pub mod InnerRanks
+pub mod Claims

@@ -1,0 +1,2 @@
+-- The table that rows are counted with.
+pub mod InnerTables

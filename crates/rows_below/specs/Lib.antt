@@ -1,0 +1,2 @@
+-- What rows are counted below.
+pub mod InnerParts
