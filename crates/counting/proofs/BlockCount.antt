@@ -13,7 +13,7 @@ use Rattle.counting.proofs.Prenecklaces.{Prenecklace}
 use Rattle.counting.proofs.Reading.{Alive, ends, track}
 use Rattle.counting.proofs.Returns.{returns-sum}
 use Rattle.counting.proofs.Sums.{delta, delta-same, total-on, total-scale, total-swap}
-use Rattle.counting.specs.InnerBlocks.{aboveCount, aboveFrom, chains, firstBlock, noBlocks}
+use Rattle.counting.specs.InnerBlocks.{aboveFrom, chains, firstBlock, noBlocks}
 use Rattle.counting.specs.InnerRoots.{rowsAbove}
 use Rattle.counting.specs.InnerSums.{flag, total}
 use Rattle.density.proofs.Binary.{Binary}
@@ -86,29 +86,19 @@ module _ (v : List ℕ) where
       let j = first-block v a (exactly g) (suc l) b (inr (omega arith)) (le-refl (length v)) in
       omega (arith, i, j)
 
-  -- without the bound on the blocks: how a table of them is filled, by length, and read
-  module _ (a : Alive v) (b : Binary v) where
-    pub table-empty : (g : ℕ) → chains v 0 0 g ≡ noBlocks 0 g
-    unfolding chains
-    table-empty g = refl
+  -- without the bound on the blocks: how a table of them is filled
+  pub table-step : Alive v → Binary v → (l g : ℕ) → chains v (suc l) (suc l) g ≡ firstBlock (λ k h. chains v k k h) (suc l) g v
+  table-step a b l g =
+      chains-number a b (suc l) (suc l) g (le-refl (suc l))
+      ∙ first-block v a (exactly g) (suc l) b (inr (omega arith)) (le-refl (length v))
+      ∙ sym (first-number (λ k h. chains v k k h) (suc l) g v (λ k h i. chains-number a b k k h (le-refl k)))
 
-    pub table-step : (l g : ℕ) → chains v (suc l) (suc l) g ≡ firstBlock (λ k h. chains v k k h) (suc l) g v
-    table-step l g =
-        chains-number a b (suc l) (suc l) g (le-refl (suc l))
-        ∙ first-block v a (exactly g) (suc l) b (inr (omega arith)) (le-refl (length v))
-        ∙ sym (first-number (λ k h. chains v k k h) (suc l) g v (λ k h i. chains-number a b k k h (le-refl k)))
-
-    pub table-above : (e : ℕ) → aboveCount v e ≡ aboveFrom (λ k h. chains v k k h) 0 e v
-    unfolding aboveCount
-    table-above e =
-        above-number (chains v (length v)) 0 e v (λ k h i. chains-number a b (length v) k h (omega arith))
-        ∙ sym (above-number (λ k h. chains v k k h) 0 e v (λ k h i. chains-number a b k k h (le-refl k)))
-
-  pub above-count : Prenecklace v → Binary v → (e : ℕ) → rowsAbove v e ≡ aboveCount v e
-  unfolding rowsAbove aboveCount paths
+  -- and read
+  pub above-count : Prenecklace v → Binary v → (e : ℕ) → rowsAbove v e ≡ aboveFrom (λ k h. chains v k k h) 0 e v
+  unfolding rowsAbove paths
   above-count s b e =
       total-on (λ x. exactly e (density x) * flag (lt v (leastRotation x))) (λ x. total (λ r. exactly e (density x) * delta (track v r x) r) (ends v)) (allRows (length v))
       (λ x m. ap (λ t. exactly e (density x) * t) (sym (returns-sum v s x (out-rows (length v) x m .0))) ∙ sym (total-scale (exactly e (density x)) (λ r. delta (track v r x) r) (ends v)))
       ∙ total-swap (λ x r. exactly e (density x) * delta (track v r x) r) (allRows (length v)) (ends v)
       ∙ sum-ends v (exactly e) b
-      ∙ sym (above-number (chains v (length v)) 0 e v (λ k h i. chains-number (λ q. omega (arith, ap length q)) b (length v) k h (omega arith)))
+      ∙ sym (above-number (λ k h. chains v k k h) 0 e v (λ k h i. chains-number (λ q. omega (arith, ap length q)) b k k h (le-refl k)))

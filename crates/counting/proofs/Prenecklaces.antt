@@ -1,12 +1,12 @@
 -- Prenecklaces: what one pass says of them, and that ones may follow them.
 use mathlib.Core.Bool.{Bool, false, true}
 use mathlib.Core.List.{List, [], append-assoc, append-nil, _++_, _∷_}
-use mathlib.Core.Path.{ap, refl, subst, sym, _∙_, _≡_}
+use mathlib.Core.Path.{ap, subst, sym, _∙_, _≡_}
 use Prim.Native.Nat.{suc, zero, ℕ, _+_, _<_, _≤_}
 use native.Mathlib.Omega.{arith}
 use lib.ListN.{length, length-append}
 use Rattle.counting.specs.InnerBound.{passes}
-use Rattle.density.proofs.Binary.{Binary, binary-snoc, empty, one∷, zero∷}
+use Rattle.density.proofs.Binary.{Binary, binary-snoc, one∷, zero∷}
 use Rattle.words.proofs.AtMost.{not-both}
 use Rattle.words.proofs.Below.{_≺_}
 use Rattle.words.proofs.Cut.{cut}

@@ -24,14 +24,11 @@ unfoldable pub chains : List ℕ → ℕ → ℕ → ℕ → ℕ
 chains v zero l g = noBlocks l g
 chains v (suc f) l g = noBlocks l g + firstBlock (λ k h. chains v f k h) l g v
 
--- behind s symbols of v, of density e less than wanted, comes r: each block of s + 1 symbols counts s + 1 times
+-- the rows above v: the block that runs over a row's beginning has s + 1 symbols or more, and lies there in as many ways as it has symbols.
+-- s symbols of v are passed, r is to come, and the density is still e
 unfoldable pub aboveFrom : (ℕ → ℕ → ℕ) → ℕ → ℕ → List ℕ → ℕ
 aboveFrom F s e [] = 0
 aboveFrom F s zero (zero ∷ r) = aboveFrom F (suc s) zero r
 aboveFrom F s (suc e) (zero ∷ r) = suc s * F (length r) e + aboveFrom F (suc s) (suc e) r
 aboveFrom F s zero (suc c ∷ r) = 0
 aboveFrom F s (suc e) (suc c ∷ r) = aboveFrom F (suc s) e r
-
--- the rows of as many symbols as v, of density e, all of whose rotations are above v, where v begins a necklace
-unfoldable pub aboveCount : List ℕ → ℕ → ℕ
-aboveCount v e = aboveFrom (chains v (length v)) 0 e v

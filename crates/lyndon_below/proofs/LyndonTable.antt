@@ -4,7 +4,7 @@ use mathlib.Core.List.{List}
 use mathlib.Core.Logic.{inl, inr, _⊎_}
 use mathlib.Core.Path.{ap, refl, sym, _∙_, _≡_}
 use Prim.Native.Nat.{pred, suc, zero, ℕ, _%_, _*_, _+_, _-_, _/_, _<_, _^_, _≤_}
-use native.Mathlib.Nat.{div-add-mod, div-add-mod', mul-mod-left, mul-mod-right, div-lt-self, div-le-self, eq-or-lt-of-le, le-of-mul-le-mul-left, le-refl, le-trans, mul-div-right}
+use native.Mathlib.Nat.{div-add-mod, div-add-mod', mul-mod-left, mul-mod-right, div-lt-self, eq-or-lt-of-le, le-of-mul-le-mul-left, mul-div-right}
 use native.Mathlib.Numerals.{add-one}
 use native.Mathlib.Omega.{arith}
 use lib.ListN.{getD, length, set}

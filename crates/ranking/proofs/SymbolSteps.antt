@@ -12,6 +12,7 @@ use Rattle.density.proofs.Members.{Member}
 use Rattle.density.proofs.RankedRings.{before-necklace, from-necklace, necklace-member, of-drawer}
 use Rattle.density.specs.Ranks.{necklaceAt, rank}
 use Rattle.lyndon_below.specs.InnerTables.{Given}
+use Rattle.pascal.specs.Pascal.{lastRow}
 use Rattle.ranking.specs.InnerRanks.{Seats}
 use Rattle.refusal.specs.Verdicts.{mostStations}
 use Rattle.words.proofs.AtMost.{≼-there, ≼-under, _≼_}
@@ -26,15 +27,15 @@ take-ones (suc n) (suc m) h = ap {B = List ℕ} (λ t. 1 ∷ t) (take-ones n m (
 
 -- ---- n ones
 
-pub ones-long : (n : ℕ) → n ≤ 64 → length (take {A = ℕ} n (replicate mostStations 1)) ≡ n
+pub ones-long : (n : ℕ) → n ≤ lastRow → length (take {A = ℕ} n (replicate mostStations 1)) ≡ n
 ones-long n h = ap length (take-ones n mostStations (omega arith)) ∙ length-replicate {A = ℕ} n 1
 
-pub ones-given : (n d : ℕ) → 0 < n → n ≤ 64 → d ≤ n → Given (take n (replicate mostStations 1)) d
+pub ones-given : (n d : ℕ) → 0 < n → n ≤ lastRow → d ≤ n → Given (take n (replicate mostStations 1)) d
 ones-given n d p h k =
     let e = take-ones n mostStations (omega arith) in
     rw e (record { some = omega (arith, length-replicate {A = ℕ} n 1); few = omega (arith, length-replicate {A = ℕ} n 1); binary = binary-replicate n 1 (omega arith); dense = omega (arith, length-replicate {A = ℕ} n 1) })
 
-pub ones-rank : (n d kind r : ℕ) → n ≤ 64 → let w = take {A = ℕ} n (replicate mostStations 1) in r ≡ rank (length w) d kind w → r ≡ rank n d kind (ones n)
+pub ones-rank : (n d kind r : ℕ) → n ≤ lastRow → let w = take {A = ℕ} n (replicate mostStations 1) in r ≡ rank (length w) d kind w → r ≡ rank n d kind (ones n)
 ones-rank n d kind r h e =
     let o = take-ones n mostStations (omega arith) in
     rw (o, length-replicate {A = ℕ} n 1) at e

@@ -50,52 +50,46 @@ pub fn are_stations(n: usize) -> bool
     1 <= n && n <= MOST_STATIONS
 }
 
+// A refusal's number and place.
+struct Told(u8, usize);
+
+// What is told of each refusal: its place is 0 unless it names one.
+fn tell(r: Refusal) -> Told
+    ensures { λ t. ⌜ (t .0 ≡ numberOf r) × (t .1 ≡ placeOf r) ⌝ }
+{
+    match r {
+        Refusal::Stations => Told(1, 0),
+        Refusal::Holes => Told(2, 0),
+        Refusal::Symbol(p) => Told(3, p),
+        Refusal::Limit => Told(4, 0),
+        Refusal::Kind => Told(5, 0),
+        Refusal::Prefix => Told(6, 0),
+        Refusal::PitchSum => Told(7, 0),
+        Refusal::LastPlain => Told(8, 0),
+        Refusal::Buffer => Told(9, 0),
+        Refusal::Text(line) => Told(10, line),
+        Refusal::ZeroPitch(p) => Told(11, p),
+        Refusal::Name => Told(12, 0),
+        Refusal::Seat => Told(13, 0),
+        Refusal::Ended => Told(20, 0),
+        Refusal::Spent => Told(21, 0),
+        Refusal::Unfit => Told(22, 0),
+        Refusal::NothingPut => Told(23, 0),
+    }
+}
+
 // The refusal's number.
 pub fn number(r: Refusal) -> u8
     ensures { λ n. ⌜ n ≡ numberOf r ⌝ }
 {
-    match r {
-        Refusal::Stations => 1,
-        Refusal::Holes => 2,
-        Refusal::Symbol(_) => 3,
-        Refusal::Limit => 4,
-        Refusal::Kind => 5,
-        Refusal::Prefix => 6,
-        Refusal::PitchSum => 7,
-        Refusal::LastPlain => 8,
-        Refusal::Buffer => 9,
-        Refusal::Text(_) => 10,
-        Refusal::ZeroPitch(_) => 11,
-        Refusal::Name => 12,
-        Refusal::Seat => 13,
-        Refusal::Ended => 20,
-        Refusal::Spent => 21,
-        Refusal::Unfit => 22,
-        Refusal::NothingPut => 23,
-    }
+    let t = tell(r);
+    t.0
 }
 
 // The refusal's place, 0 unless it names one.
 pub fn place(r: Refusal) -> usize
     ensures { λ p. ⌜ p ≡ placeOf r ⌝ }
 {
-    match r {
-        Refusal::Stations => 0,
-        Refusal::Holes => 0,
-        Refusal::Symbol(p) => p,
-        Refusal::Limit => 0,
-        Refusal::Kind => 0,
-        Refusal::Prefix => 0,
-        Refusal::PitchSum => 0,
-        Refusal::LastPlain => 0,
-        Refusal::Buffer => 0,
-        Refusal::Text(line) => line,
-        Refusal::ZeroPitch(p) => p,
-        Refusal::Name => 0,
-        Refusal::Seat => 0,
-        Refusal::Ended => 0,
-        Refusal::Spent => 0,
-        Refusal::Unfit => 0,
-        Refusal::NothingPut => 0,
-    }
+    let t = tell(r);
+    t.1
 }

@@ -6,7 +6,7 @@ use native.Mathlib.Nat.{le-refl}
 use native.Mathlib.Omega.{arith}
 use lib.ListN.{length, set}
 use lib.Seq.{getD-set-other, getD-set-same}
-use Rattle.counting.proofs.BlockCount.{above-count, table-above, table-step}
+use Rattle.counting.proofs.BlockCount.{above-count, table-step}
 use Rattle.counting.proofs.Ceilings.{above-few, chains-few, choose-fits}
 use Rattle.counting.proofs.Reading.{Alive}
 use Rattle.counting.specs.InnerBlocks.{aboveFrom, chains, firstBlock, noBlocks}
@@ -41,7 +41,7 @@ module _ (v : List ℕ) (o : Opening v) where
 
   -- the rows above v
   pub above-by-blocks : (e : ℕ) → aboveFrom (F v) 0 e v ≡ rowsAbove v e
-  above-by-blocks e = sym (above-count v (o .pre) (o .binary) e ∙ table-above v alive (o .binary) e)
+  above-by-blocks e = sym (above-count v (o .pre) (o .binary) e)
 
   pub above-fits : (e : ℕ) → rowsAbove v e < 2 ^ 64
   above-fits e = omega (arith, above-few v e, choose-fits (length v) e (o .few))

@@ -3,7 +3,6 @@ ghost use mathlib.Core.Path.{_≡_};
 ghost use Prim.Native.Nat.{_+_, _-_, _≤_, _<_};
 ghost use lib.ListN.{length};
 ghost use Rattle.counting.specs.InnerRoots.{rowsAbove};
-ghost use Rattle.pascal.specs.Pascal.{lastRow};
 ghost use Rattle.rows_above.specs.InnerTables.{Added, Cleared, Filled, Opening, SumsFit, tableSize};
 
 // The entries of a table: for each number of ones from 0 to 64, one for each number of zeros.
