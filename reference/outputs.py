@@ -1,5 +1,5 @@
 """The stored output of each test program, by the definitions of rings.py."""
-from itertools import count, product
+from itertools import count, product, repeat
 
 import texts
 from cases import MOST, calls, lines, numeral
@@ -23,12 +23,17 @@ from rings import (
     pairs,
     pitches_of_row,
     put,
+    rank,
+    rank_by_turns,
     refusal,
+    ring_at,
+    rings_of,
     row_of_pitches,
     shelved,
     step,
     stations,
     top,
+    total,
     turned_key,
     ways,
     without_symmetry,
@@ -631,6 +636,102 @@ def walk_bench():
             break
         rings += 1
     print(rings, "rings", trials, "trials", places, "places")
+
+
+# ---- ranking_test
+
+
+def counted_refusal(n, d, kind):
+    """The conditions of a drawer whose rings are counted."""
+    return (1, not stations(n)), (2, d > n), (5, kind not in (1, 2))
+
+
+def seat_refusal(n, d, kind, row):
+    return refusal(*counted_refusal(n, d, kind), (4, len(row) != n), (3, wrong(row)))
+
+
+def ring_at_refusal(n, d, kind, seat, room):
+    """Where one of the first holds, there is no total to ask for."""
+    first = refusal(*counted_refusal(n, d, kind), (9, room < n))
+    return first or refusal((13, not 1 <= seat <= total(n, d, kind)))
+
+
+def show_seat(line, n, d, kind, digits):
+    row = symbols(digits)
+    no = seat_refusal(n, d, kind, row)
+    print(f"{line}:", refused(*no) if no else rank(n, d, kind, row))
+
+
+def show_ring_at(line, n, d, kind, seat, room):
+    no = ring_at_refusal(n, d, kind, seat, room)
+    print(f"{line}:", end=" ")
+    if no:
+        print(refused(*no), "as before 80")
+    else:
+        ring = ring_at(n, d, kind, seat)
+        assert shelved(ring) and of_kind(kind, ring) and sum(ring) == d and rank(n, d, kind, ring) == seat
+        print(text(ring), "seat", seat, "as before", 80 - n)
+
+
+def show_seats(name, kind, compared, last):
+    print(f"{name}, kind {kind}: compared {compared} agreed {compared} {last}")
+
+
+def show_drawers():
+    """Drawers of up to 12 stations: seats of all rows, rings at all seats with 0 and one above, rings of walks and the none behind them."""
+    drawers = [(n, d) for n in range(1, 13) for d in range(n + 1)]
+    for kind in 1, 2:
+        seats = [rank(n, d, kind, row) for n, d in drawers for row in product((0, 1), repeat=n)]
+        show_seats("seats of all rows", kind, len(seats), f"sum {sum(seats)}")
+    for kind in 1, 2:
+        rings = [len(rings_of(n, d, kind)) for n, d in drawers]
+        show_seats("rings at all seats", kind, sum(rings) + 2 * len(rings), f"rings {sum(rings)}")
+    for name, allowance in ("plenty", PLENTY), ("1", 1), ("3", 3):
+        for kind in 1, 2:
+            compared = spent = 0
+            for n, d in drawers:
+                walked = book(n, d, kind, (1,) * n)
+                assert [ring for ring, _ in walked] == rings_of(n, d, kind)[::-1] + [None]
+                compared += len(walked)
+                spent += sum(answer == 21 for answer, _ in book_answers(walked, repeat(allowance)))
+            show_seats(f"walks, {name} allowed", kind, compared, f"spent {spent}")
+
+
+def show_grid(name, told):
+    told = [no or (0, 0) for no in told]
+    numbers = [number for number, _ in told]
+    print(f"{name}: calls {len(told)} agreed {len(told)} places {sum(place for _, place in told)} given {numbers.count(0)} refused", end=" ")
+    print(*(f"{number} {numbers.count(number)}" for number in range(1, 14)))
+
+
+def ranking_test():
+    for n in range(1, 11):
+        assert all(total(n, d, kind) == len(rings_of(n, d, kind)) for d in range(n + 1) for kind in (1, 2))
+        rows = product(product((0, 1), repeat=n), range(n + 1), (1, 2))
+        assert all(rank_by_turns(n, d, kind, row) == rank(n, d, kind, row) for row, d, kind in rows)
+    for line in lines("ranking_test"):
+        name, n, d, kind, *rest = line.split(" ")
+        n, d, kind = numeral(n), numeral(d), int(kind)
+        if name == "seat":
+            show_seat(line, n, d, kind, rest[0])
+        else:
+            show_ring_at(line, n, d, kind, numeral(rest[1]), int(rest[3]))
+    show_drawers()
+    drawers = list(product((0, 1, 2, 7, 64, 65, MOST), (0, 1, 2, 64, 65, 66, MOST), (0, 1, 2, 3, 4, 255)))
+    ones = [(1,) * length for length in (0, 1, 2, 7, 64, 65)]
+    rows = [row for full in ones for row in (full, (2,) + full[1:] if full else full, full[:-1] + (2,) if full else full)]
+    show_grid("seats of rows", (seat_refusal(*drawer, row) for drawer in drawers for row in rows))
+    seats = list(product((0, 1, 7, 64, 80), (0, 1, 2, MOST)))
+    show_grid("rings at seats", (ring_at_refusal(*drawer, seat, room) for drawer in drawers for room, seat in seats))
+
+
+# ---- rank_bench
+
+
+def rank_bench():
+    """The ring at a seat; the seats of a row are not stored."""
+    n, d, kind, _, _, *seat = texts.stored_input("rank_bench")
+    print(text(ring_at(n, d, kind, int.from_bytes(bytes(seat), "big"))))
 
 
 # ---- drawer_input_test

@@ -102,6 +102,87 @@ def bracelets(n, d):
     return kept // (2 * n)
 
 
+# ---- seats
+
+
+@lru_cache(None)
+def rings_of(n, d, kind):
+    """The rings of a drawer and kind, rising."""
+    return [row for row in reversed(drawer(n, d)) if of_kind(kind, row)]
+
+
+def next_state(row, state, symbol):
+    """Of some symbols read, the end that begins the row and is as long as can be stands as a state: its length. None where the symbol
+    takes some end below the row, or makes the whole of it."""
+    read = row[:state] + (symbol,)
+    ends = [read[i:] for i in range(len(read))]
+    if any(end < row[: len(end)] for end in ends) or read == row:
+        return None
+    return max((len(end) for end in ends if end == row[: len(end)]), default=0)
+
+
+@lru_cache(None)
+def rows_above(row):
+    """For each m that divides the length n, by holes: how many rows of m symbols, said n / m times, have all turns above the row. Said
+    on and on such a row comes back to a state, after m symbols, and to one only. The counts by holes are the digits of a number."""
+    n, digit = len(row), 80
+    moves = [(i, next_state(row, i, symbol), digit * symbol) for i in range(n) for symbol in (0, 1)]
+    moves = [(i, j, shift) for i, j, shift in moves if j is not None]
+    back = [0] * (n + 1)
+    for start in range(n):
+        reached = [int(i == start) for i in range(n)]
+        for m in range(1, n + 1):
+            after = [0] * n
+            for i, j, shift in moves:
+                if reached[i]:
+                    after[j] += reached[i] << shift
+            reached = after
+            back[m] += reached[start]
+    return {m: [back[m] >> digit * e & (1 << digit) - 1 for e in range(m + 1)] for m in range(1, n + 1) if n % m == 0}
+
+
+def moebius(k):
+    """0 where a square above 1 divides k, else 1 or -1 by the number of primes that do."""
+    primes = [p for p in range(2, k + 1) if k % p == 0 and all(p % q for q in range(2, p))]
+    return 0 if any(k % (p * p) == 0 for p in primes) else (-1) ** len(primes)
+
+
+def rank_by_turns(n, d, kind, row):
+    """Rows with a turn at or below the row, m of them for each ring of period m. A row with k times the same is one of n / k symbols."""
+    both = gcd(n, d)
+    above = rows_above(row)
+    below = {k: ways(n // k, d // k) - above[n // k][d // k] for k in range(1, both + 1) if both % k == 0}
+
+    def aperiodic(k):
+        """The rings that say k times a ring without symmetry."""
+        return sum(moebius(m // k) * below[m] for m in below if m % k == 0) * k // n
+
+    return aperiodic(1) if kind == 2 else sum(map(aperiodic, below))
+
+
+def rank(n, d, kind, row):
+    """The seat of a row: how many rings of the drawer and kind lie at or below it."""
+    if n <= 14:
+        return sum(ring <= row for ring in rings_of(n, d, kind))
+    return rank_by_turns(n, d, kind, row)
+
+
+def total(n, d, kind):
+    """How many rings a drawer has of a kind, none of them listed: kind 1 the rows that each turn leaves as they are, on average."""
+    kept = {k: ways(n // k, d // k) for k in range(1, n + 1) if gcd(n, d) % k == 0}
+    units = {k: sum(gcd(i, k) == 1 for i in range(1, k + 1)) for k in kept}
+    return sum((units[k] if kind == 1 else moebius(k)) * kept[k] for k in kept) // n
+
+
+def ring_at(n, d, kind, seat):
+    """The ring at a seat: the least row that has so many rings at or below it, symbol by symbol."""
+    row = ()
+    for i in range(n):
+        highest = row + (0,) + (1,) * (n - i - 1)
+        row += (int(rank(n, d, kind, highest) < seat),)
+    return row
+
+
 # ---- refusals
 
 

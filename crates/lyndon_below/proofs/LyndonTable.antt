@@ -16,7 +16,7 @@ use Rattle.counting.proofs.Sums.{total-same}
 use Rattle.counting.specs.InnerRoots.{lyndonBelow, rowsBelow}
 use Rattle.counting.specs.InnerSums.{commonly, divides, flag, total, upto}
 use Rattle.lyndon_below.specs.InnerTables.{Given, Known, named, taken}
-use Rattle.rows_below.specs.InnerParts.{Part}
+use Rattle.lyndon_below.specs.InnerParts.{Part}
 
 -- ---- sums
 

@@ -1,2 +1,3 @@
--- The table of Lyndon words.
+-- What Lyndon words are counted by.
+pub mod InnerParts
 pub mod InnerTables

@@ -1,4 +1,7 @@
-// The Lyndon words whose power is at or below a row, for each divisor of its length.
+// The Lyndon words whose power is at or below a row, for each divisor of its length, by the rows that have a rotation so.
+mod bound;
+mod rows;
+
 ghost use mathlib.Core.Path.{_≡_};
 ghost use Prim.Native.Nat.{ℕ, pred, suc, _+_, _*_, _≤_, _<_, _^_};
 ghost use lib.ListN.{length};
@@ -77,7 +80,7 @@ fn count_of_length(
         return 0;
     }
     let e = d / k;
-    let rows = rows_below::count_below(ways, table, w, m, e);
+    let rows = rows::count_below(ways, table, w, m, e);
     let shorter = shorter_sum(t, m, e);
     (rows - shorter) / (m as u64)
 }

@@ -27,11 +27,6 @@ module _ (F : ℕ → ℕ → ℕ) where
   unfolding firstBlock
   first-end g r = refl
 
-  pub first-nil : (l g : ℕ) → firstBlock F l g [] ≡ 0
-  unfolding firstBlock
-  first-nil zero g = refl
-  first-nil (suc l) g = refl
-
   -- ---- fewer symbols than ones
 
   module _ (none : (k h : ℕ) → k < h → F k h ≡ 0) where

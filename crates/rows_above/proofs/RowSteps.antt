@@ -4,25 +4,22 @@ use mathlib.Core.Logic.{inl, inr, _⊎_}
 use mathlib.Core.Path.{ap, ap₂, _∙_, _≡_}
 use Prim.Native.Nat.{suc, ℕ, _*_, _+_, _-_, _<_, _≤_}
 use native.Mathlib.Nat.{eq-or-lt-of-le, mul-le-mul-right}
-use native.Mathlib.Numerals.{add-one}
 use native.Mathlib.Omega.{arith}
-use lib.ListN.{drop, drop-of-length-le, getD, length}
+use lib.ListN.{drop, getD, length}
 use Rattle.counting.specs.InnerBlocks.{firstBlock}
-use Rattle.rows_above.proofs.BlockSteps.{first-at-one, first-at-zero, first-dense, first-end, first-nil, first-none}
+use Rattle.rows_above.proofs.BlockSteps.{first-at-one, first-at-zero, first-dense, first-end, first-none}
 use Rattle.rows_above.proofs.Filling.{F, by-blocks, chains-fit, too-dense}
 use Rattle.rows_above.specs.InnerTables.{Added, Cleared, Filled, Opening, SumsFit, entryAt, sequences, tableSize}
 use Rattle.words.proofs.Below.{le-or}
 
--- what is left of the sequences of g ones and z zeros where v is passed to place i, with c ones
+-- what is left of the sequences of g ones and z zeros where i symbols of v are passed, with c ones
 abbrev pub left : List ℕ → ℕ → ℕ → ℕ → ℕ → ℕ
 left v g c i z = firstBlock (F v) (g + z - i) (g - c) (drop i v)
 
-pub record Row (v : List ℕ) (g k : ℕ) (t : List ℕ) (c i : ℕ) : Type 0 where
-  pub inside : i ≤ length v
-  pub few : c ≤ i
+pub record Row (v : List ℕ) (g k : ℕ) (t : List ℕ) (c j : ℕ) : Type 0 where
   pub long : length t ≡ tableSize
   pub lower : Filled v t g k
-  pub row : (z : ℕ) → z ≤ k → entryAt t g z + left v g c i z ≡ sequences v g z
+  pub row : (z : ℕ) → z ≤ k → entryAt t g z + left v g c (c + j) z ≡ sequences v g z
 
 module _ (v : List ℕ) (g k : ℕ) (o : Opening v) (some : 0 < g) (within : g + k ≤ length v) where
   -- entries of fewer ones lie before the row
@@ -31,8 +28,6 @@ module _ (v : List ℕ) (g k : ℕ) (o : Opening v) (some : 0 < g) (within : g +
 
   pub row-start : (t u : List ℕ) → Filled v t g k → Cleared t u (g * 65) (k + 1) → Row v g k u 0 0
   row-start t u f s = record {
-    inside = omega arith;
-    few = omega arith;
     long = s .long;
     lower = λ h z a b. s .before (h * 65 + z) (ahead h z a b) ∙ f h z a b;
     row = λ z h.
@@ -41,80 +36,74 @@ module _ (v : List ℕ) (g k : ℕ) (o : Opening v) (some : 0 < g) (within : g +
         rw (s .changed z (omega arith), p, q) (omega (arith, by-blocks v o (g + z) g (omega arith)));
   }
 
-  -- no block is left: no ones, or more zeros than there are places, or no symbols
+  -- no block is left: no ones, or more zeros than there are places
   no-ones : (c i z : ℕ) → g ≤ c → left v g c i z ≡ 0
   no-ones c i z h = let e : g - c ≡ 0 = omega arith in rw e (first-none (F v) (g + z - i) (drop i v))
 
   no-zeros : (c i z : ℕ) → c < g → c + z < i → left v g c i z ≡ 0
   no-zeros c i z a b = first-dense (F v) (too-dense v o) (g + z - i) (g - c) (drop i v) (omega arith)
 
-  no-symbols : (c i z : ℕ) → length v ≤ i → left v g c i z ≡ 0
-  no-symbols c i z h = rw (drop-of-length-le v h) (first-nil (F v) (g + z - i) (g - c))
-
-  pub row-full : (t : List ℕ) (c i : ℕ) → Row v g k t c i → (length v ≤ i) ⊎ ((g ≤ c) ⊎ (k < i - c)) → Filled v t (g + 1) k
-  row-full t c i r w h z a b = go (eq-or-lt-of-le a)
+  pub row-full : (t : List ℕ) (c j : ℕ) → Row v g k t c j → (g ≤ c) ⊎ (k < j) → Filled v t (g + 1) k
+  row-full t c j r w h z a b = go (eq-or-lt-of-le a)
     where
-      none : (length v ≤ i) ⊎ ((g ≤ c) ⊎ (k < i - c)) → left v g c i z ≡ 0
-      none (inl q) = no-symbols c i z q
-      none (inr (inl q)) = no-ones c i z q
-      none (inr (inr q)) = pick (le-or g c)
+      none : (g ≤ c) ⊎ (k < j) → left v g c (c + j) z ≡ 0
+      none (inl q) = no-ones c (c + j) z q
+      none (inr q) = pick (le-or g c)
         where
-          pick : (g ≤ c) ⊎ (c < g) → left v g c i z ≡ 0
-          pick (inl p) = no-ones c i z p
-          pick (inr p) = no-zeros c i z p (omega arith)
+          pick : (g ≤ c) ⊎ (c < g) → left v g c (c + j) z ≡ 0
+          pick (inl p) = no-ones c (c + j) z p
+          pick (inr p) = no-zeros c (c + j) z p (omega arith)
 
       go : (suc h ≡ g + 1) ⊎ (suc h < g + 1) → entryAt t h z ≡ sequences v h z
       go (inl p) = let q : h ≡ g = omega arith in rw q (omega (arith, r .row z b, none w))
       go (inr p) = r .lower h z (omega arith) b
 
-  module _ (t : List ℕ) (c i : ℕ) (r : Row v g k t c i) (more : i < length v) (room : c < g) where
-    -- j zeros are passed, and a block leaves q ones
-    module _ (j q : ℕ) (passed : i ≡ c + j) (rest : g ≡ c + suc q) (zeros : j ≤ k) (e : getD v i 0 ≡ 0) where
+  module _ (t : List ℕ) (c j : ℕ) (r : Row v g k t c j) (room : c < g) (zeros : j ≤ k) where
+    more : c + j < length v
+    more = omega arith
+
+    -- a block leaves q ones
+    module _ (q : ℕ) (rest : g ≡ c + suc q) (e : getD v (c + j) 0 ≡ 0) where
       -- the block of this 0, with j + x zeros in all
-      split : (x : ℕ) → j + x ≤ k → entryAt t g (j + x) + entryAt t q x + left v g c (suc i) (j + x) ≡ sequences v g (j + x)
+      split : (x : ℕ) → j + x ≤ k → entryAt t g (j + x) + entryAt t q x + left v g c (suc (c + j)) (j + x) ≡ sequences v g (j + x)
       split x b =
           let source = r .lower q x (omega arith) (omega arith) in
-          let size : q + x ≡ g + (j + x) - suc i = omega arith in
+          let size : q + x ≡ g + (j + x) - suc (c + j) = omega arith in
           let ones : q ≡ g - c - 1 = omega arith in
-          let same : sequences v q x ≡ F v (g + (j + x) - suc i) (g - c - 1) = ap₂ (F v) size ones in
-          omega (arith, r .row (j + x) b, source, same, first-at-zero (F v) v i more (g - c) (omega arith) (g + (j + x)) (omega arith) e)
+          let same : sequences v q x ≡ F v (g + (j + x) - suc (c + j)) (g - c - 1) = ap₂ (F v) size ones in
+          omega (arith, r .row (j + x) b, source, same, first-at-zero (F v) v (c + j) more (g - c) (omega arith) (g + (j + x)) (omega arith) e)
 
       pub sums-fit : SumsFit t (g * 65 + j) (q * 65) (k + 1 - j)
       sums-fit x h =
           let at-z : g * 65 + (j + x) ≡ g * 65 + j + x = omega arith in
           omega (arith, split x (omega arith), ap (λ p. getD t p 0) at-z, chains-fit v o (g + (j + x)) g (omega arith))
 
-      pub row-zero : (u : List ℕ) → Added t u (g * 65 + j) (q * 65) (k + 1 - j) → Row v g k u c (i + 1)
+      pub row-zero : (u : List ℕ) → Added t u (g * 65 + j) (q * 65) (k + 1 - j) → Row v g k u c (j + 1)
       row-zero u s = record {
-        inside = omega arith;
-        few = omega (arith, r .few);
         long = s .long;
         lower = λ h z a b. s .before (h * 65 + z) (omega (arith, ahead h z a b)) ∙ r .lower h z a b;
-        row = λ z b. rw (add-one i) (go z b (le-or j z));
+        row = λ z b. let next : c + (j + 1) ≡ suc (c + j) = omega arith in rw next (go z b (le-or j z));
       }
         where
-          go : (z : ℕ) → z ≤ k → (j ≤ z) ⊎ (z < j) → entryAt u g z + left v g c (suc i) z ≡ sequences v g z
+          go : (z : ℕ) → z ≤ k → (j ≤ z) ⊎ (z < j) → entryAt u g z + left v g c (suc (c + j)) z ≡ sequences v g z
           go z b (inl h) =
               let is : z ≡ j + (z - j) = omega arith in
               let at-z : g * 65 + j + (z - j) ≡ g * 65 + (j + (z - j)) = omega arith in
               rw is (omega (arith, split (z - j) (omega arith), s .changed (z - j) (omega arith), ap (λ p. getD u p 0) at-z, ap (λ p. getD t p 0) at-z))
-          go z b (inr h) = omega (arith, s .before (g * 65 + z) (omega arith), r .row z b, no-zeros c i z room (omega arith), no-zeros c (suc i) z room (omega arith))
+          go z b (inr h) = omega (arith, s .before (g * 65 + z) (omega arith), r .row z b, no-zeros c (c + j) z room (omega arith), no-zeros c (suc (c + j)) z room (omega arith))
 
-    pub row-one : 0 < getD v i 0 → Row v g k t (c + 1) (i + 1)
+    pub row-one : 0 < getD v (c + j) 0 → Row v g k t (c + 1) j
     row-one e = record {
-      inside = omega arith;
-      few = omega (arith, r .few);
       long = r .long;
       lower = r .lower;
-      row = λ z b. rw (add-one i) (go z b (le-or (g + z) i));
+      row = λ z b. let next : c + 1 + j ≡ suc (c + j) = omega arith in rw next (go z b (le-or (g + z) (c + j)));
     }
       where
-        go : (z : ℕ) → z ≤ k → (g + z ≤ i) ⊎ (i < g + z) → entryAt t g z + left v g (c + 1) (suc i) z ≡ sequences v g z
+        go : (z : ℕ) → z ≤ k → (g + z ≤ c + j) ⊎ (c + j < g + z) → entryAt t g z + left v g (c + 1) (suc (c + j)) z ≡ sequences v g z
         go z b (inl h) =
-            let p : g + z - i ≡ 0 = omega arith in
-            let q : g + z - suc i ≡ 0 = omega arith in
-            let old = r .row z b in
-            rw (q, first-end (F v) (g - (c + 1)) (drop (suc i) v)) (rw (p, first-end (F v) (g - c) (drop i v)) at old)
+            let p : g + z - (c + j) ≡ 0 = omega arith in
+            let q : g + z - suc (c + j) ≡ 0 = omega arith in
+            rw (q, first-end (F v) (g - (c + 1)) (drop (suc (c + j)) v)) (rw (p, first-end (F v) (g - c) (drop (c + j) v)) at (r .row z b))
         go z b (inr h) =
             let less : g - c - 1 ≡ g - (c + 1) = omega arith in
-            omega (arith, r .row z b, first-at-one (F v) v i more (g - c) (omega arith) (g + z) h e, ap (λ q. firstBlock (F v) (g + z - suc i) q (drop (suc i) v)) less)
+            omega (arith, r .row z b, first-at-one (F v) v (c + j) more (g - c) (omega arith) (g + z) h e, ap (λ q. firstBlock (F v) (g + z - suc (c + j)) q (drop (suc (c + j)) v)) less)

@@ -42,26 +42,19 @@ fn fill_row(t: &mut [u64; TABLE_SIZE], v: &[u8], g: usize, zeros: usize)
 {
     clear(t, g * WIDTH, zeros + 1);
     let mut ones: usize = 0;
-    let mut i: usize = 0;
-    while i < v.len() {
-        if g <= ones {
-            return;
-        }
-        let passed = i - ones;
-        if zeros < passed {
-            return;
-        }
-        if v[i] == 0 {
+    let mut passed: usize = 0;
+    while ones < g && passed <= zeros {
+        if v[ones + passed] == 0 {
             add(
                 t,
                 g * WIDTH + passed,
                 (g - 1 - ones) * WIDTH,
                 zeros + 1 - passed,
             );
+            passed += 1;
         } else {
             ones += 1;
         }
-        i += 1;
     }
 }
 

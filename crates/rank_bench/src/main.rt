@@ -1,0 +1,59 @@
+// Works out the seat of a row, or the ring at a seat, some times, and prints the sum of the seats, or the ring. Read: the bytes n, d, kind,
+// which, how often, and eight bytes of a number, the highest first. Which: 0 the row of the number's last n binary digits, 1 the ring at the
+// seat of that number.
+use ranking::Seat;
+use test_rows::cases;
+
+fn seat_of(n: usize, d: usize, kind: u8, row: &[u8]) -> u64 {
+    let seat = ranking::rank(n, d, kind, row);
+    match seat {
+        Seat::Number(x) => x,
+        Seat::Refused(_) => 0,
+    }
+}
+
+fn show_seats(n: usize, d: usize, kind: u8, number: u64, times: u8) {
+    let row = test_rows::row_of_number(n, number as usize);
+    let mut sum: u64 = 0;
+    let mut left = times;
+    while 0 < left {
+        sum = std::num::wrapping_add_u64(sum, seat_of(n, d, kind, cases::part(&row, 0, n)));
+        left -= 1;
+    }
+    test_rows::print_named(b"", sum as usize);
+}
+
+fn show_ring(n: usize, d: usize, kind: u8, seat: u64, times: u8) {
+    let mut ring = [0u8; refusal::MOST_STATIONS];
+    let mut left = times;
+    while 0 < left {
+        ranking::unrank(n, d, kind, seat, &mut ring);
+        left -= 1;
+    }
+    test_rows::print_row(n, &ring);
+}
+
+fn number_in(asked: &[u8; 13]) -> u64 {
+    let mut number: u64 = 0;
+    let mut i: usize = 5;
+    while i < 13 {
+        number = number % 72057594037927936 * 256 + test_rows::wide(asked[i]) as u64;
+        i += 1;
+    }
+    number
+}
+
+fn main() {
+    let mut asked = [0u8; 13];
+    if io::read_full(0, &mut asked) < 13 {
+        return;
+    }
+    let n = test_rows::wide(asked[0]);
+    let d = test_rows::wide(asked[1]);
+    if asked[3] == 0 {
+        show_seats(n, d, asked[2], number_in(&asked), asked[4]);
+    } else {
+        show_ring(n, d, asked[2], number_in(&asked), asked[4]);
+    }
+    io::write_all(1, b"\n");
+}

@@ -1,2 +1,0 @@
--- What rows are counted below.
-pub mod InnerParts
