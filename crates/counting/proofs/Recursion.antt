@@ -2,8 +2,8 @@
 use mathlib.Core.Bool.{Bool, false, true}
 use mathlib.Core.List.{List}
 use mathlib.Core.Path.{ap, refl, sym, _∙_, _≡_}
-use Prim.Native.Nat.{suc, zero, ℕ, _%_, _*_, _+_, _/_, _<_}
-use native.Mathlib.Nat.{div-add-mod, div-one, mod-one, mul-div-right}
+use Prim.Native.Nat.{suc, zero, ℕ, _%_, _*_, _+_, _/_, _<_, _≤_}
+use native.Mathlib.Nat.{div-add-mod, div-one, mod-one, mul-div-right, mul-le-mul-left}
 use native.Mathlib.Omega.{arith}
 use lib.ListN.{length}
 use borrow.Author.Tests.{eqb-true}
@@ -21,12 +21,13 @@ use Rattle.words.proofs.Rotations.{isLyndon→}
 use Rattle.words.specs.Order.{le}
 use Rattle.words.specs.Rotation.{isLyndon, period}
 
-pub commonly-same : (n d : ℕ) (f g : ℕ → ℕ) (k : ℕ) → (suc k * (n / suc k) ≡ n → f k ≡ g k) → commonly n d f k ≡ commonly n d g k
-commonly-same n d f g k h = go (divides (suc k) n) refl
+pub commonly-both : (m e : ℕ) (f g : ℕ → ℕ) (j : ℕ) → (suc j * (m / suc j) ≡ m → suc j * (e / suc j) ≡ e → f j ≡ g j) → commonly m e f j ≡ commonly m e g j
+commonly-both m e f g j h = go (divides (suc j) m) refl (divides (suc j) e) refl
   where
-    go : (b : Bool) → divides (suc k) n ≡ b → flag b * (flag (divides (suc k) d) * f k) ≡ flag b * (flag (divides (suc k) d) * g k)
-    go true e = rw (h (omega (arith, div-add-mod n (suc k), eqb-true (n % suc k) 0 e)))
-    go false e = omega arith
+    go : (a : Bool) → divides (suc j) m ≡ a → (b : Bool) → divides (suc j) e ≡ b → flag a * (flag b * f j) ≡ flag a * (flag b * g j)
+    go true p true q = rw (h (omega (arith, div-add-mod m (suc j), eqb-true (m % suc j) 0 p)) (omega (arith, div-add-mod e (suc j), eqb-true (e % suc j) 0 q)))
+    go true p false q = omega arith
+    go false p b q = omega arith
 
 pub quotient : (a b n : ℕ) → 0 < a → a * b ≡ n → n / a ≡ b
 quotient a b n p e = ap (λ t. t / a) (sym e) ∙ mul-div-right b p
@@ -34,6 +35,9 @@ quotient a b n p e = ap (λ t. t / a) (sym e) ∙ mul-div-right b p
 pub factor-pos : (a b n : ℕ) → 0 < n → a * b ≡ n → 0 < b
 factor-pos a zero n p e = absurd (omega arith)
 factor-pos a (suc b) n p e = omega arith
+
+pub factor-fits : (a b n : ℕ) → 0 < n → a * b ≡ n → a ≤ n
+factor-fits a b n p e = omega (arith, e, mul-le-mul-left a (factor-pos a b n p e))
 
 -- a divisor of a divisor
 pub part-of-part : (n m k : ℕ) → 0 < m → m * (n / m) ≡ n → suc k * (m / suc k) ≡ m → n / m * suc k ≡ n / (m / suc k)
@@ -46,8 +50,8 @@ unfolding lyndonBelow
 below-sum n d w p =
     necklace-sum n d (λ r. flag (le r w)) p
     ∙ total-same (commonly n d (λ k. lyndonSum (λ u. flag (le (power (suc k) u) w)) (n / suc k) (d / suc k))) (commonly n d (λ k. lyndonBelow n w (n / suc k) (d / suc k))) (upto n)
-    (λ k. commonly-same n d (λ k. lyndonSum (λ u. flag (le (power (suc k) u) w)) (n / suc k) (d / suc k)) (λ k. lyndonBelow n w (n / suc k) (d / suc k)) k
-    (λ h. ap (λ t. lyndonSum (λ u. flag (le (power t u) w)) (n / suc k) (d / suc k)) (sym (quotient (n / suc k) (suc k) n (factor-pos (suc k) (n / suc k) n p h) (omega arith)))))
+    (λ k. commonly-both n d (λ k. lyndonSum (λ u. flag (le (power (suc k) u) w)) (n / suc k) (d / suc k)) (λ k. lyndonBelow n w (n / suc k) (d / suc k)) k
+    (λ h i. ap (λ t. lyndonSum (λ u. flag (le (power t u) w)) (n / suc k) (d / suc k)) (sym (quotient (n / suc k) (suc k) n (factor-pos (suc k) (n / suc k) n p h) (omega arith)))))
 
 -- ---- the rows with a rotation at or below w, by the roots of their least rotations
 
@@ -82,7 +86,7 @@ module _ (n : ℕ) (w : List ℕ) (m e : ℕ) (p : 0 < m) (whole : m * (n / m) �
   pub orbit-sizes : total (commonly m e (λ k. m / suc k * lyndonBelow n w (m / suc k) (e / suc k))) (upto m) ≡ rowsBelow n w m e
   unfolding rowsBelow
   orbit-sizes =
-      total-same (commonly m e sizes) (divisorTerm m e Q) (upto m) (λ k. commonly-same m e sizes sums k (λ h. sym (weight k h)))
+      total-same (commonly m e sizes) (divisorTerm m e Q) (upto m) (λ k. commonly-both m e sizes sums k (λ h i. sym (weight k h)))
       ∙ sym (necklace-sum m e Q p)
       ∙ orbits m e p (λ r. flag (le (power (n / m) r) w))
     where

@@ -3,7 +3,7 @@ use mathlib.Core.Bool.{Bool, false, true}
 use mathlib.Core.List.{List, List·Memᴰ, [], append-nil, _++_}
 use mathlib.Core.Path.{ap, refl, subst, sym, _∙_, _≡_}
 use Prim.Native.Nat.{Ordering, Ordering·eq, Ordering·gt, Ordering·lt, suc, zero, ℕ, _*_, _+_, _-_, _/_, _<_, _≤_}
-use native.Mathlib.Nat.{mul-le-mul-left, mul-zero}
+use native.Mathlib.Nat.{mul-zero}
 use native.Mathlib.Omega.{arith}
 use lib.Dec.{isLe}
 use lib.ListN.{drop, length, take, take-append-drop}
@@ -11,7 +11,7 @@ use lib.Seq.{length-take-le}
 use Rattle.counting.proofs.Highest.{Candidate, Found, below-is, nowhere, there-is}
 use Rattle.counting.proofs.Orbits.{least-member}
 use Rattle.counting.proofs.Prenecklaces.{Passes, Prenecklace, failed, passed, passes-is}
-use Rattle.counting.proofs.Recursion.{factor-pos}
+use Rattle.counting.proofs.Recursion.{factor-fits, factor-pos}
 use Rattle.counting.proofs.RowCounts.{density-count}
 use Rattle.counting.proofs.Sums.{total-add, total-on, total-same, total-zero}
 use Rattle.counting.specs.InnerBound.{Bound, at, highestBelow, highestUpTo, none, onlyIf, orElse}
@@ -131,19 +131,19 @@ module _ (n : ℕ) (w : List ℕ) (m e : ℕ) (some : 0 < n) (whole : m * (n / m
   q-pos : 0 < q
   q-pos = factor-pos m (n / m) n some whole
 
-  m-pos : 0 < m
+  pub m-pos : 0 < m
   m-pos = factor-pos (n / m) m n some (omega arith)
 
   fits : m ≤ length w
-  fits = omega (arith, mul-le-mul-left m q-pos)
+  fits = omega (arith, factor-fits m (n / m) n some whole)
 
-  v-long : length v ≡ m
+  pub v-long : length v ≡ m
   v-long = length-take-le m w fits
 
   w-cut : w ≡ v ++ drop m w
   w-cut = sym (take-append-drop m w)
 
-  v-binary : Binary v
+  pub v-binary : Binary v
   v-binary = binary-front v (drop m w) (subst Binary w-cut binary)
 
   least-row : (x : List ℕ) → List·Memᴰ x (allRows m) → Row v (leastRotation x)

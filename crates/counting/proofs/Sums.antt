@@ -5,6 +5,7 @@ use mathlib.Core.Logic.{inl, inr, _⊎_}
 use mathlib.Core.Path.{ap, refl, sym, _∙_, _≡_}
 use Prim.Native.Nat.{suc, zero, ℕ, _*_, _+_, _<_, _≤_}
 use native.Mathlib.Nat.{eq-or-lt-of-le, mul-add, mul-zero}
+use native.Mathlib.Numerals.{add-one}
 use native.Mathlib.Omega.{arith}
 use lib.ListN.{length}
 use Rattle.counting.specs.InnerSums.{flag, total, upto}
@@ -155,3 +156,17 @@ pub upto-first : (f : ℕ → ℕ) (m : ℕ) → total f (upto (suc m)) ≡ f 0 
 unfolding total upto
 upto-first f zero = refl
 upto-first f (suc m) = omega (arith, upto-first f m)
+
+-- the last term apart, and a sum of fewer terms
+pub upto-next : (f : ℕ → ℕ) (i : ℕ) → total f (upto (i + 1)) ≡ f i + total f (upto i)
+unfolding total upto
+upto-next f i = rw (add-one i)
+
+pub upto-le : (f : ℕ → ℕ) (i m : ℕ) → i ≤ m → total f (upto i) ≤ total f (upto m)
+unfolding total upto
+upto-le f i zero h = let e : i ≡ 0 = omega arith in rw e (omega arith)
+upto-le f i (suc m) h = go (eq-or-lt-of-le h) (upto-le f i m)
+  where
+    go : (i ≡ suc m) ⊎ (i < suc m) → (i ≤ m → total f (upto i) ≤ total f (upto m)) → total f (upto i) ≤ f m + total f (upto m)
+    go (inl e) ih = rw e (omega arith)
+    go (inr k) ih = omega (arith, ih (omega arith))

@@ -13,7 +13,7 @@ use Rattle.refusal.specs.Verdicts.{Verdict, accepted, refused, need, areStation
 use Rattle.density.specs.Necklaces.{isKind}
 use Rattle.density.specs.declared.drawers.Checked.{Checked}
 
--- 1, 2 and 5, in that order, before the rest; whether the kind is one that is taken
+-- 1, 2 and 5, in that order, before the rest; `taken` says whether the kind is one that the operation takes
 abbrev pub drawerNeeds : ℕ → ℕ → Bool → Verdict → Verdict
 drawerNeeds n d taken rest = need (areStations n) Stations (need (leb d n) Holes (need taken Kind rest))
 
@@ -40,7 +40,7 @@ checkedVerdict (Checked.Refused r) = refused r
 abbrev pub NoKind : ℕ → Type 0
 NoKind kind = NotOneTo 3 kind
 
--- 1, 2 and 5, before the rest; the kind is none that is taken
+-- 1, 2 and 5, before the rest; `NotTaken` says that the kind is none that the operation takes
 abbrev pub drawerConditions : ℕ → ℕ → Type 0 → Conditions → Conditions
 drawerConditions n d NotTaken rest = when (NoStations n) Stations (when (n < d) Holes (when NotTaken Kind rest))
 

@@ -3,17 +3,16 @@ use mathlib.Core.Bool.{Bool, false, true}
 use mathlib.Core.List.{List}
 use mathlib.Core.Path.{ap, refl, subst, sym, _∙_, _≡_}
 use Prim.Native.Nat.{suc, ℕ, _-_, _/_, _<_, _≤_}
-use native.Mathlib.Nat.{min-le-right, mul-le-mul-left}
+use native.Mathlib.Nat.{min-le-right}
 use native.Mathlib.Omega.{arith}
-use lib.ListN.{drop, length, length-take, take, take-append-drop}
-use lib.Seq.{length-take-le}
+use lib.ListN.{length, length-take, take}
 use Rattle.counting.proofs.Ceilings.{above-few}
-use Rattle.counting.proofs.Recursion.{factor-pos}
-use Rattle.counting.proofs.RowsBelow.{Bounds, bounded, countTo, highest-is, no-bound, rows-below}
+use Rattle.counting.proofs.Recursion.{factor-fits}
+use Rattle.counting.proofs.RowsBelow.{Bounds, bounded, countTo, highest-is, m-pos, no-bound, rows-below, v-binary, v-long}
 use Rattle.counting.specs.InnerRoots.{rowsAbove, rowsBelow}
 use Rattle.counting.specs.InnerBound.{Bound, at, highestUpTo, none, onlyIf}
 use Rattle.density.specs.Choose.{choose}
-use Rattle.density.proofs.Binary.{Binary, binary-front}
+use Rattle.density.proofs.Binary.{Binary}
 use Rattle.pascal.proofs.LookUp.{in-table, looked-up}
 use Rattle.pascal.specs.Answers.{waysOutcome, waysVerdict}
 use Rattle.pascal.specs.Pascal.{entryOf, lastRow, triangle}
@@ -24,7 +23,7 @@ use Rattle.lyndon_below.specs.InnerParts.{Part}
 use Rattle.words.proofs.Power.{power}
 use Rattle.words.specs.Order.{le}
 
-pub bound-opening : (t : Bool) (v : List ℕ) → 0 < length v → length v ≤ 64 → Binary v → (u : List ℕ) → at u ≡ highestUpTo t v → (length u ≡ length v) × Opening u
+pub bound-opening : (t : Bool) (v : List ℕ) → 0 < length v → length v ≤ lastRow → Binary v → (u : List ℕ) → at u ≡ highestUpTo t v → (length u ≡ length v) × Opening u
 bound-opening t v p f b u e = go (highest-is t v p b) e
   where
     go : {h : Bound} → Bounds t v h → at u ≡ h → (length u ≡ length v) × Opening u
@@ -35,17 +34,17 @@ bound-opening t v p f b u e = go (highest-is t v p b) e
         (long, record { some = omega arith; few = omega arith; binary = subst Binary same c; pre = rw same at s })
 
 module _ (w : List ℕ) (m e : ℕ) (s : Part w m e) where
-  pub m-pos : 0 < m
-  m-pos = factor-pos (length w / m) m (length w) (s .some) (omega (arith, s .divides))
+  pub some : 0 < m
+  some = m-pos (length w) w m e (s .some) (s .divides) refl (s .binary)
 
   pub m-fits : m ≤ length w
-  m-fits = omega (arith, s .divides, mul-le-mul-left m (factor-pos m (length w / m) (length w) (s .some) (s .divides)))
+  m-fits = factor-fits m (length w / m) (length w) (s .some) (s .divides)
 
   pub first-size : length (take m w) ≡ m
-  first-size = length-take-le m w m-fits
+  first-size = v-long (length w) w m e (s .some) (s .divides) refl (s .binary)
 
   pub first-binary : Binary (take m w)
-  first-binary = binary-front (take m w) (drop m w) (subst Binary (sym (take-append-drop m w)) (s .binary))
+  first-binary = v-binary (length w) w m e (s .some) (s .divides) refl (s .binary)
 
   below : rowsBelow (length w) w m e ≡ countTo (highestUpTo (le (power (length w / m) (take m w)) w) (take m w)) m e
   below = rows-below (length w) w m e (s .some) (s .divides) refl (s .binary)
@@ -53,7 +52,7 @@ module _ (w : List ℕ) (m e : ℕ) (s : Part w m e) where
   -- the bound found
   module _ (t : Bool) (u : List ℕ) (is : at u ≡ highestUpTo t (take m w)) where
     pub opening : (length u ≡ m) × Opening u
-    opening = let o = bound-opening t (take m w) (omega (arith, first-size, m-pos)) (omega (arith, first-size, m-fits, s .few)) first-binary u is in (o .0 ∙ first-size, o .1)
+    opening = let o = bound-opening t (take m w) (omega (arith, first-size, some)) (omega (arith, first-size, m-fits, s .few)) first-binary u is in (o .0 ∙ first-size, o .1)
 
     pub above-below : rowsAbove u e ≤ choose m e
     above-below = subst (λ k. rowsAbove u e ≤ choose k e) (opening .0) (above-few u e)

@@ -2,16 +2,16 @@
 use mathlib.Core.Bool.{Bool, false, true}
 use mathlib.Core.List.{List}
 use mathlib.Core.Logic.{inl, inr, _⊎_}
-use mathlib.Core.Path.{ap, refl, sym, _∙_, _≡_}
+use mathlib.Core.Path.{ap, sym, _∙_, _≡_}
 use Prim.Native.Nat.{pred, suc, zero, ℕ, _%_, _*_, _+_, _-_, _/_, _<_, _^_, _≤_}
 use native.Mathlib.Nat.{div-add-mod, div-add-mod', mul-mod-left, mul-mod-right, div-lt-self, eq-or-lt-of-le, le-of-mul-le-mul-left, mul-div-right}
 use native.Mathlib.Numerals.{add-one}
 use native.Mathlib.Omega.{arith}
 use lib.ListN.{getD, length, set}
 use lib.Seq.{getD-set-other, getD-set-same}
-use borrow.Author.Tests.{eqb-true, eq-eqb, ne-eqb}
+use borrow.Author.Tests.{eq-eqb, ne-eqb}
 use Rattle.counting.proofs.Ceilings.{choose-fits, rows-few}
-use Rattle.counting.proofs.Recursion.{factor-pos, lyndon-recursion, quotient, shorter}
+use Rattle.counting.proofs.Recursion.{commonly-both, factor-pos, lyndon-recursion, quotient, shorter}
 use Rattle.counting.proofs.Sums.{total-same}
 use Rattle.counting.specs.InnerRoots.{lyndonBelow, rowsBelow}
 use Rattle.counting.specs.InnerSums.{commonly, divides, flag, total, upto}
@@ -20,14 +20,6 @@ use Rattle.lyndon_below.specs.InnerParts.{Part}
 
 -- ---- sums
 
-pub commonly-both : (m e : ℕ) (f g : ℕ → ℕ) (j : ℕ) → (suc j * (m / suc j) ≡ m → suc j * (e / suc j) ≡ e → f j ≡ g j) → commonly m e f j ≡ commonly m e g j
-commonly-both m e f g j h = go (divides (suc j) m) refl (divides (suc j) e) refl
-  where
-    go : (a : Bool) → divides (suc j) m ≡ a → (b : Bool) → divides (suc j) e ≡ b → flag a * (flag b * f j) ≡ flag a * (flag b * g j)
-    go true p true q = rw (h (omega (arith, div-add-mod m (suc j), eqb-true (m % suc j) 0 p)) (omega (arith, div-add-mod e (suc j), eqb-true (e % suc j) 0 q)))
-    go true p false q = omega arith
-    go false p b q = omega arith
-
 scaled : (m e : ℕ) (f : ℕ → ℕ) (j : ℕ) → commonly m e (λ k. m / suc k * f k) j ≡ m / suc j * commonly m e f j
 scaled m e f j = go (divides (suc j) m) (divides (suc j) e)
   where
@@ -35,19 +27,6 @@ scaled m e f j = go (divides (suc j) m) (divides (suc j) e)
     go true true = omega arith
     go true false = omega arith
     go false b = omega arith
-
-pub upto-next : (f : ℕ → ℕ) (i : ℕ) → total f (upto (i + 1)) ≡ f i + total f (upto i)
-unfolding total upto
-upto-next f i = rw (add-one i)
-
-pub upto-le : (f : ℕ → ℕ) (i m : ℕ) → i ≤ m → total f (upto i) ≤ total f (upto m)
-unfolding total upto
-upto-le f i zero h = let e : i ≡ 0 = omega arith in rw e (omega arith)
-upto-le f i (suc m) h = go (eq-or-lt-of-le h) (upto-le f i m)
-  where
-    go : (i ≡ suc m) ⊎ (i < suc m) → (i ≤ m → total f (upto i) ≤ total f (upto m)) → total f (upto i) ≤ f m + total f (upto m)
-    go (inl e) ih = rw e (omega arith)
-    go (inr k) ih = omega (arith, ih (omega arith))
 
 -- ---- one entry
 

@@ -71,9 +71,6 @@ power-test w m p h = go (length w / m) (factor-pos m (length w / m) (length w) p
         ∙ power-cmp j v r times
         ∙ ap₂ cmp (ap (λ n. take n (v ++ r)) size-r ∙ ap (take (length w - m)) whole) (sym all))
 
-pub part-fits : (n m : ℕ) → 0 < n → m * (n / m) ≡ n → m ≤ n
-part-fits n m p h = omega (arith, mul-le-mul-left m (factor-pos m (n / m) n p h))
-
 -- ---- the three answers of the comparison
 
 abbrev pub shifted : List ℕ → ℕ → Ordering

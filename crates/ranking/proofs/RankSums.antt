@@ -7,12 +7,12 @@ use native.Mathlib.Omega.{arith}
 use lib.ListN.{getD, length}
 use Rattle.counting.proofs.Ceilings.{choose-fits}
 use Rattle.counting.proofs.Ranks.{rank-one, rank-two}
+use Rattle.counting.proofs.Recursion.{commonly-both}
 use Rattle.counting.proofs.Sums.{total-same}
 use Rattle.counting.specs.InnerRoots.{lyndonBelow}
 use Rattle.counting.specs.InnerSums.{commonly, total, upto}
 use Rattle.density.proofs.RankedRings.{rank-few}
 use Rattle.density.specs.Ranks.{rank}
-use Rattle.lyndon_below.proofs.LyndonTable.{commonly-both}
 use Rattle.lyndon_below.specs.InnerTables.{Given, Known, named}
 
 module _ (w : List ℕ) (d : ℕ) (g : Given w d) (t : List ℕ) (s : Known t w d (length w + 1)) where

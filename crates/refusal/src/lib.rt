@@ -13,9 +13,9 @@ pub enum Refusal {
     Holes,
     // a byte other than 0 or 1, with the place of the first
     Symbol(usize),
-    // length of a limit, or of a second row, differs from the stations
+    // length of a limit, of a row asked for its seat, or of a second row, differs from the stations
     Limit,
-    // kind not 1 to 3
+    // kind not 1 to 3; for a seat, not 1 or 2
     Kind,
     // prefix longer than the stations
     Prefix,

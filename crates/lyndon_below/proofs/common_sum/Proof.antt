@@ -3,7 +3,7 @@ use mathlib.Core.Path.{ap, _∙_, _≡_}
 use Prim.Native.Nat.{_+_, _-_, _≤_}
 use native.Mathlib.Omega.{arith}
 use Rattle.counting.specs.InnerSums.{total, upto}
-use Rattle.lyndon_below.proofs.LyndonTable.{upto-le, upto-next}
+use Rattle.counting.proofs.Sums.{upto-le, upto-next}
 use Rattle.lyndon_below.specs.InnerTables.{named}
 use borrow.Author.Needs.{needs}
 use Rattle.lyndon_below.proofs.common_sum.Statement.{statement}

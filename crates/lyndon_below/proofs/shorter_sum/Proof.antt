@@ -4,7 +4,8 @@ use mathlib.Core.Path.{ap, _∙_, _≡_}
 use Prim.Native.Nat.{pred, ℕ, _*_, _+_, _-_, _/_, _<_, _≤_}
 use native.Mathlib.Omega.{arith}
 use Rattle.counting.specs.InnerSums.{total, upto}
-use Rattle.lyndon_below.proofs.LyndonTable.{last, not-last, taken-is, upto-le, upto-next}
+use Rattle.counting.proofs.Sums.{upto-le, upto-next}
+use Rattle.lyndon_below.proofs.LyndonTable.{last, not-last, taken-is}
 use Rattle.lyndon_below.specs.InnerTables.{named, taken}
 use borrow.Author.Needs.{needs}
 use Rattle.lyndon_below.proofs.shorter_sum.Statement.{statement}

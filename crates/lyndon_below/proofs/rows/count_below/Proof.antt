@@ -11,7 +11,7 @@ use Rattle.pascal.specs.Answers.{waysOutcome}
 use Rattle.pascal.specs.Pascal.{lastRow}
 use Rattle.refusal.specs.Outcomes.{given, valueIn}
 use Rattle.rows_above.specs.InnerTables.{Opening}
-use Rattle.lyndon_below.proofs.BoundFound.{above-below, counted, counted-none, first-binary, first-size, is-bound, is-none, m-fits, m-pos, opening, take-fits, ways-found}
+use Rattle.lyndon_below.proofs.BoundFound.{above-below, counted, counted-none, first-binary, first-size, is-bound, is-none, m-fits, opening, some, take-fits, ways-found}
 use Rattle.lyndon_below.proofs.rows.count_below.Statement.{statement}
 use Rattle.lyndon_below.proofs.rows.count_below.Tie as tie
 
@@ -32,7 +32,7 @@ slice-aggregate-highest-to c = sym (first (c .before .before .before))
 highest-to-requires : tie.Need-highest-to-requires
 highest-to-requires c κs =
     let s = c .before .before .before in
-    (omega (arith, first s, m-pos (s .args .w .now) (s .args .m) (s .args .e) (s .pre .1)), omega (arith, first s, few s), first-binary (s .args .w .now) (s .args .m) (s .args .e) (s .pre .1))
+    (omega (arith, first s, some (s .args .w .now) (s .args .m) (s .args .e) (s .pre .1)), omega (arith, first s, few s), first-binary (s .args .w .now) (s .args .m) (s .args .e) (s .pre .1))
 
 -- ---- no bound
 

@@ -4,22 +4,23 @@ use Prim.Native.Nat.{ℕ}
 use native.Mathlib.Omega.{arith}
 use lib.ListN.{length}
 use lib.Seq.{length-take-le}
-use Rattle.lyndon_below.proofs.PowerTest.{if-higher, if-other, part-fits}
+use Rattle.counting.proofs.Recursion.{factor-fits}
+use Rattle.lyndon_below.proofs.PowerTest.{if-higher, if-other}
 use borrow.Author.Needs.{needs}
 use Rattle.lyndon_below.proofs.rows.power_at_most.Statement.{statement}
 use Rattle.lyndon_below.proofs.rows.power_at_most.Tie as tie
 
 sub-compare : tie.Need-sub-compare
-sub-compare c = let s = c .before in omega (arith, part-fits (length (s .args .w .now)) (s .args .m) (s .pre .0) (s .pre .1))
+sub-compare c = let s = c .before in omega (arith, factor-fits (s .args .m) _ (length (s .args .w .now)) (s .pre .0) (s .pre .1))
 
 slice-aggregate-compare : tie.Need-slice-aggregate-compare
-slice-aggregate-compare c = let s = c .before .before in sym (length-take-le _ (s .args .w .now) (omega (arith, part-fits (length (s .args .w .now)) (s .args .m) (s .pre .0) (s .pre .1))))
+slice-aggregate-compare c = let s = c .before .before in sym (length-take-le _ (s .args .w .now) (omega (arith, factor-fits (s .args .m) _ (length (s .args .w .now)) (s .pre .0) (s .pre .1))))
 
 sub-compare-2 : tie.Need-sub-compare-2
-sub-compare-2 c = let s = c .before .before in omega (arith, part-fits (length (s .args .w .now)) (s .args .m) (s .pre .0) (s .pre .1))
+sub-compare-2 c = let s = c .before .before in omega (arith, factor-fits (s .args .m) _ (length (s .args .w .now)) (s .pre .0) (s .pre .1))
 
 part-compare-start : tie.Need-part-compare-start
-part-compare-start c = let s = c .before .before in omega (arith, part-fits (length (s .args .w .now)) (s .args .m) (s .pre .0) (s .pre .1))
+part-compare-start c = let s = c .before .before in omega (arith, factor-fits (s .args .m) _ (length (s .args .w .now)) (s .pre .0) (s .pre .1))
 
 returns : tie.Need-returns
 returns c =
