@@ -49,7 +49,7 @@ loop-again c =
     let l = a .before .before .before .before in
     let s = l .before in (
       ⊎-elim
-          (λ w. rw (w .1) (fixed-high (s .args .n) (s .args .d) (s .args .kind) (s .args .seat) (s .pre .1) (l .loop .row) (l .loop .i) (l .loop .inv .0) (omega arith) (a .rank-with .result) (a .rank-with .ensures .1) (w .0 .taken)))
+          (λ w. rw (w .1) (fixed-high (s .args .n) (s .args .d) (s .args .kind) (s .args .seat) (s .pre .1) (l .loop .row) (l .loop .i) (l .loop .inv .0) (omega arith) (a .rank-with .result) (a .rank-with .ensures .1) (omega (arith, w .0 .taken))))
           (λ w. rw (w .1) (fixed-low (s .args .n) (s .args .d) (s .args .kind) (s .args .seat) (s .pre .1) (l .loop .row) (l .loop .i) (l .loop .inv .0) (omega arith) (a .rank-with .result) (a .rank-with .ensures .1) (w .0 .left)))
           (c .if1 .came),
       a .rank-with .ensures .0,
