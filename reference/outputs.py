@@ -14,10 +14,10 @@ from rings import (
     drawer,
     fetch,
     first_difference,
-    is_kind,
     key,
     of_kind,
     one_ring,
+    open_refusal,
     opened,
     padded,
     pairs,
@@ -42,6 +42,14 @@ from rings import (
 )
 
 PLENTY = 1000
+
+# drawers of up to 12 stations
+TO_12 = [(n, d) for n in range(1, 13) for d in range(n + 1)]
+
+# numbers of stations and holes, kinds, and rows of ones, in and out of range; with a wrong byte at no place, the first and the last
+DRAWERS = list(product((0, 1, 2, 7, 64, 65, MOST), (0, 1, 2, 64, 65, 66, MOST), (0, 1, 2, 3, 4, 255)))
+ONES = [(1,) * size for size in (0, 1, 2, 7, 64, 65)]
+ROWS = [row for full in ONES for row in (full, (2,) + full[1:] if full else full, full[:-1] + (2,) if full else full)]
 
 
 def symbols(digits):
@@ -285,7 +293,7 @@ def pitches_test():
         show_lists(size)
 
 
-# ---- ways, lengths_test
+# ---- ways, pascal_test
 
 
 def ways_program():
@@ -299,35 +307,61 @@ def ways_refusal(n, d):
     return refusal((1, n > 64), (2, d > n))
 
 
-def ceiling_refusal(n, d, kind):
-    return refusal((1, not stations(n)), (2, d > n), (5, not is_kind(kind)))
-
-
-def show_calls(name, told, numbers):
-    told = [no[0] if no else 0 for no in told]
-    print(f"{name}: calls {len(told)} agreed {len(told)} given {told.count(0)} refused", end=" ")
-    print(*(f"{number} {told.count(number)}" for number in numbers))
-
-
-def lengths_test():
-    for line in lines("lengths_test"):
-        name, n, d, *kind = line.split(" ")
-        n, d = numeral(n), numeral(d)
-        no = ceiling_refusal(n, d, int(kind[0])) if kind else ways_refusal(n, d)
+def pascal_test():
+    for line in lines("pascal_test"):
+        n, d = map(numeral, line.split(" ")[1:])
+        no = ways_refusal(n, d)
         print(f"{line}:", refused(*no) if no else ways(n, d))
     rows = [row for n in range(11) for row in product((0, 1), repeat=n)]
     assert all(ways(n, d) == sum(len(row) == n and sum(row) == d for row in rows) for n in range(11) for d in range(n + 1))
     print("rows of up to 10 stations: rows", len(rows), "pairs 176 agreed 176")
     numbers = [*range(68), 127, 256, 2**32, 2**63, MOST]
-    pairs = list(product(numbers, repeat=2))
-    show_calls("look-ups", (ways_refusal(*pair) for pair in pairs), (1, 2))
-    kinds = (0, 1, 2, 3, 4, 255)
-    show_calls("ceilings", (ceiling_refusal(*pair, kind) for pair in pairs for kind in kinds), (1, 2, 5))
-    for n, kind in product(range(1, 15), (1, 2, 3)):
-        rings = [sum(of_kind(kind, row) for row in drawer(n, d)) for d in range(n + 1)]
-        assert kind != 3 or rings == [bracelets(n, d) for d in range(n + 1)]
-        assert all(ring <= ways(n, d) for d, ring in enumerate(rings))
-        print(f"n {n} kind {kind}: drawers {n + 1} within {n + 1} rings {sum(rings)} ceilings {sum(ways(n, d) for d in range(n + 1))}")
+    told = [no[0] if no else 0 for no in (ways_refusal(*pair) for pair in product(numbers, repeat=2))]
+    print(f"look-ups: calls {len(told)} agreed {len(told)} given {told.count(0)} refused 1 {told.count(1)} 2 {told.count(2)}")
+
+
+# ---- lengths_test
+
+
+def length(n, d, kind, limit):
+    """The rings of the drawer and kind at or below the limit; of kind 3 the ceiling."""
+    return ways(n, d) if kind == 3 else rank(n, d, kind, limit)
+
+
+def covers(n, d, kind, limit, rings):
+    """Whether a walk of so many rings is as long as its length says; of kind 3, no longer."""
+    return rings <= length(n, d, kind, limit) if kind == 3 else rings == length(n, d, kind, limit)
+
+
+def some_limits(n):
+    """All to 7 stations, else 16; n ones first."""
+    return [row_of_number(n, (2**n - 1 + k * 2749) % 2**n) for k in range(2**n if n < 8 else 16)]
+
+
+def lengths_test():
+    for line in lines("lengths_test"):
+        n, d, kind, digits = line.split(" ")[1:]
+        asked = numeral(n), numeral(d), int(kind), symbols(digits)
+        no = open_refusal(*asked)
+        print(f"{line}:", refused(*no) if no else f"{'at most' if asked[2] == 3 else 'exactly'} {length(*asked)}")
+    for kind in 1, 2, 3:
+        counted = [length(n, d, kind, row) for n, d in TO_12 for row in product((0, 1), repeat=n)]
+        print(f"all limits, kind {kind}: compared {len(counted)} agreed {len(counted)} sum {sum(counted)}")
+    assert all(len(rings_of(n, d, 3)) == bracelets(n, d) for n, d in TO_12)
+    opened_at = [(n, d, limit) for n, d in TO_12 for limit in some_limits(n)]
+    for allowed in "plenty", "1":
+        for kind in 1, 2, 3:
+            rings = [len(book(n, d, kind, limit)) - 1 for n, d, limit in opened_at]
+            assert all(covers(n, d, kind, limit, named) for (n, d, limit), named in zip(opened_at, rings))
+            print(f"walks, {allowed} allowed, kind {kind}: compared {len(rings)} agreed {len(rings)} rings {sum(rings)}")
+    for kind in 1, 2, 3:
+        made = [texts.drawer(values(n, d, kind, text(limit).encode())).count("\n") for n, d, limit in opened_at]
+        assert all(covers(n, d, kind, limit, printed - 2) for (n, d, limit), printed in zip(opened_at, made))
+        print(f"printed drawers, kind {kind}: compared {len(made)} agreed {len(made)} lines {sum(made)}")
+    told = [(open_refusal(*asked, row) or (0, 0), asked[2] == 3) for asked in DRAWERS for row in ROWS]
+    numbers = [6 if number == 0 and ceiling else number for (number, _), ceiling in told]
+    print(f"calls {len(told)} agreed {len(told)} places {sum(place for (_, place), _ in told)} exactly {numbers.count(0)} refused", end=" ")
+    print(*(f"{number} {numbers.count(number)}" for number in range(1, 6)), "at most", numbers.count(6))
 
 
 # ---- prefix_test
@@ -679,17 +713,16 @@ def show_seats(name, kind, compared, last):
 
 def show_drawers():
     """Drawers of up to 12 stations: seats of all rows, rings at all seats with 0 and one above, rings of walks and the none behind them."""
-    drawers = [(n, d) for n in range(1, 13) for d in range(n + 1)]
     for kind in 1, 2:
-        seats = [rank(n, d, kind, row) for n, d in drawers for row in product((0, 1), repeat=n)]
+        seats = [rank(n, d, kind, row) for n, d in TO_12 for row in product((0, 1), repeat=n)]
         show_seats("seats of all rows", kind, len(seats), f"sum {sum(seats)}")
     for kind in 1, 2:
-        rings = [len(rings_of(n, d, kind)) for n, d in drawers]
+        rings = [len(rings_of(n, d, kind)) for n, d in TO_12]
         show_seats("rings at all seats", kind, sum(rings) + 2 * len(rings), f"rings {sum(rings)}")
     for name, allowance in ("plenty", PLENTY), ("1", 1), ("3", 3):
         for kind in 1, 2:
             compared = spent = 0
-            for n, d in drawers:
+            for n, d in TO_12:
                 walked = book(n, d, kind, (1,) * n)
                 assert [ring for ring, _ in walked] == rings_of(n, d, kind)[::-1] + [None]
                 compared += len(walked)
@@ -717,12 +750,9 @@ def ranking_test():
         else:
             show_ring_at(line, n, d, kind, numeral(rest[1]), int(rest[3]))
     show_drawers()
-    drawers = list(product((0, 1, 2, 7, 64, 65, MOST), (0, 1, 2, 64, 65, 66, MOST), (0, 1, 2, 3, 4, 255)))
-    ones = [(1,) * length for length in (0, 1, 2, 7, 64, 65)]
-    rows = [row for full in ones for row in (full, (2,) + full[1:] if full else full, full[:-1] + (2,) if full else full)]
-    show_grid("seats of rows", (seat_refusal(*drawer, row) for drawer in drawers for row in rows))
+    show_grid("seats of rows", (seat_refusal(*drawer, row) for drawer in DRAWERS for row in ROWS))
     seats = list(product((0, 1, 7, 64, 80), (0, 1, 2, MOST)))
-    show_grid("rings at seats", (ring_at_refusal(*drawer, seat, room) for drawer in drawers for room, seat in seats))
+    show_grid("rings at seats", (ring_at_refusal(*drawer, seat, room) for drawer in DRAWERS for room, seat in seats))
 
 
 # ---- rank_bench

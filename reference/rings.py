@@ -209,6 +209,10 @@ def refusal(*conditions):
     return next(((number, holds if number in (3, 11) else 0) for number, holds in conditions if holds), None)
 
 
+def open_refusal(n, d, kind, limit):
+    return refusal((1, not stations(n)), (2, d > n), (5, not is_kind(kind)), (4, len(limit) != n), (3, wrong(limit)))
+
+
 # ---- top rings, and prefixes by them: for drawers that are too long to list
 
 
@@ -360,7 +364,7 @@ def padded(row):
 
 def opened(n, d, kind, limit):
     """The refusal and None, or None and the walk."""
-    no = refusal((1, not stations(n)), (2, d > n), (5, not is_kind(kind)), (4, len(limit) != n), (3, wrong(limit)))
+    no = open_refusal(n, d, kind, limit)
     return (no, None) if no else (None, (n, d, kind, padded(limit), ("Limit", 0), padded(limit)))
 
 

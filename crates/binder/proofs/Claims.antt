@@ -2,21 +2,24 @@
 use mathlib.Core.Bool.{Bool, false, true, true≢false}
 use mathlib.Core.List.{List, [], map, _++_, _∷_}
 use mathlib.Core.Path.{ap, ap₂, refl, subst, sym, _∙_, _≡_}
+use Prim.Native.Nat.{ℕ}
 use native.Mathlib.Omega.{arith}
 use lib.ListN.{length, length-append}
 use Rattle.density.specs.Choose.{choose}
+use Rattle.density.specs.Lengths.{drawerLength}
 use Rattle.listing.proofs.ListingLeft.{named-append}
 use Rattle.listing.specs.Listing.{listingAnswers}
 use Rattle.listing.specs.Places.{placed}
 use Rattle.listing.specs.Totals.{listingLeft, named}
 use Rattle.refusal.proofs.Conditions.{Tells, at-most-tells, chain-first, passed, test}
+use Rattle.refusal.specs.Verdicts.{accepted}
 use Rattle.walk.proofs.Demand.{answers-agree, handed-stands, stays-fit}
-use Rattle.walk.proofs.OpeningClaims.{ceiling, named-falling, never-unfit, opened-fit, opened-stands, seats-given}
+use Rattle.walk.proofs.OpeningClaims.{ceiling, length-met, named-falling, never-unfit, opened-fit, opened-stands, seats-given}
 use Rattle.walk.proofs.StepLists.{answers-append, handed-sizes, placed-append, placed-told}
-use Rattle.walk.specs.Claims.{Opening, answers, bookOf, given, opened, placedAnswers}
+use Rattle.walk.specs.Claims.{Meets, Opening, answers, bookOf, given, opened, placedAnswers}
 use Rattle.walk.specs.Fit.{fit}
 use Rattle.walk.specs.Moves.{rules}
-use Rattle.walk.specs.Opening.{openWalk}
+use Rattle.walk.specs.Opening.{openVerdict, openWalk}
 use Rattle.walk.specs.Step.{handed, stepDue, toldBy, walkAnswers, walkPlaced}
 use Rattle.walk.specs.declared.Walk.{Walk}
 use Rattle.words.proofs.Falling.{falling-back}
@@ -25,7 +28,7 @@ use Rattle.words.specs.Symbols.{ones}
 use Rattle.binder.proofs.LastPut.{fetches-last}
 use Rattle.binder.proofs.StoodWalks.{all-stood}
 use Rattle.binder.specs.Calls.{Call, Held, Stretch, afterCalls, allowances, atFirst, callAnswers, calling, fetches, opens, puts, putsIn, steps}
-use Rattle.binder.specs.Claims.{FetchRefusals, FetchesStood, PutRefusals, StandsFit, Stood, StretchAnswers, StretchCeiling, StretchFalling, StretchListed, StretchSeats, told}
+use Rattle.binder.specs.Claims.{FetchRefusals, FetchesStood, PutRefusals, StandsFit, Stood, StretchAnswers, StretchCeiling, StretchFalling, StretchLength, StretchListed, StretchSeats, told}
 use Rattle.binder.specs.Names.{fetchVerdict, highestName, putVerdict, under}
 use Rattle.binder.specs.Puts.{afterPuts, fetched}
 
@@ -129,8 +132,20 @@ stretch-ceiling calls stretch t =
     let most = ap₂ choose (z .0) (z .1) in
     omega (arith, all, most, ceiling (s .from) (s .steps ++ allowances stretch))
 
+-- ---- a stretch that follows an opening has the answers of its walk
+
+abbrev opening : (n d kind : ℕ) (limit : List ℕ) → openVerdict n d kind limit ≡ accepted → Opening
+opening n d kind limit passes = record { n = n; d = d; kind = kind; limit = limit; passed = passes }
+
+told-opened : (h : Held) (n d kind : ℕ) (limit : List ℕ) (stretch : List Call) (passes : openVerdict n d kind limit ≡ accepted) → Stretch stretch → answers (opening n d kind limit passes) (allowances stretch) ≡ told (calling h (opens n d kind limit)) stretch
+told-opened h n d kind limit stretch passes t =
+    sym (placed-told rules (opened (opening n d kind limit passes)) (allowances stretch))
+    ∙ ap (map (λ a. a .tells)) (sym (stretch-answers (calling h (opens n d kind limit)) stretch t))
+
 pub stretch-seats : StretchSeats
 stretch-seats h n d kind stretch passes t before ring more e =
-    let o : Opening = record { n = n; d = d; kind = kind; limit = ones n; passed = passes } in
-    let same = ap named (sym (placed-told rules (opened o) (allowances stretch)) ∙ ap (map (λ a. a .tells)) (sym (stretch-answers (calling h (opens n d kind (ones n))) stretch t))) in
-    seats-given o (allowances stretch) before ring more (same ∙ e)
+    seats-given (opening n d kind (ones n) passes) (allowances stretch) before ring more (ap named (told-opened h n d kind (ones n) stretch passes t) ∙ e)
+
+pub stretch-length : StretchLength
+stretch-length h n d kind limit stretch passes t =
+    subst (Meets (drawerLength n d kind limit)) (told-opened h n d kind limit stretch passes t) (length-met (opening n d kind limit passes) (allowances stretch))

@@ -5,6 +5,7 @@ use mathlib.Core.Path.{_≡_}
 use Prim.Native.Nat.{suc, ℕ, _+_, _-_, _<_, _≤_}
 use lib.ListN.{length}
 use Rattle.density.specs.Choose.{choose}
+use Rattle.density.specs.Lengths.{drawerLength}
 use Rattle.density.specs.Ranks.{rank, ringCount}
 use Rattle.listing.specs.Listing.{Told, listingAnswers}
 use Rattle.listing.specs.Totals.{listingLeft, named}
@@ -12,7 +13,7 @@ use Rattle.refusal.specs.Conditions.{Conditions, FirstOf, no-more, when}
 use Rattle.refusal.specs.Outcomes.{given}
 use Rattle.refusal.specs.Verdicts.{accepted}
 use Rattle.refusal.specs.declared.Refusal.the-variants.{Name, NothingPut, Unfit}
-use Rattle.walk.specs.Claims.{Opening, Record, bookOf, opened, placedAnswers}
+use Rattle.walk.specs.Claims.{Meets, Opening, Record, bookOf, opened, placedAnswers}
 use Rattle.walk.specs.Fit.{fit}
 use Rattle.walk.specs.Moves.{rules}
 use Rattle.walk.specs.Opening.{openVerdict}
@@ -123,3 +124,10 @@ StretchSeats =
     (h : Held) (n d kind : ℕ) (stretch : List Call) → openVerdict n d kind (ones n) ≡ accepted → Stretch stretch
     → (before : List (List ℕ)) (ring : List ℕ) (more : List (List ℕ)) → named (told (calling h (opens n d kind (ones n))) stretch) ≡ before ++ (ring ∷ more)
     → let r = length before + 1 in rank n d kind ring ≡ ringCount n d kind + 1 - r
+
+-- "The number of rings that the walk opened there yields to its end with no bookmark fetched": whatever is held, a drawer is opened at any
+-- limit, and a stretch follows
+abbrev pub StretchLength : Type 0
+StretchLength =
+    (h : Held) (n d kind : ℕ) (limit : List ℕ) (stretch : List Call) → openVerdict n d kind limit ≡ accepted → Stretch stretch
+    → Meets (drawerLength n d kind limit) (told (calling h (opens n d kind limit)) stretch)

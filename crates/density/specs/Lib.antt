@@ -4,6 +4,7 @@ pub mod Choose
 pub mod Rows
 pub mod Necklaces
 pub mod Ranks
+pub mod Lengths
 pub mod InnerBalanced
 pub mod Blocks
 pub mod Drawers

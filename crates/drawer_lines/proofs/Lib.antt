@@ -1,4 +1,6 @@
 -- lines, piece by piece
 pub mod Filling
+-- how many line feeds a line has
+pub mod LineFeeds
 -- document 01's example
 pub mod Examples

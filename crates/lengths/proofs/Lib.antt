@@ -1,4 +1,2 @@
--- drawers in the table
-pub mod Counted
--- what is claimed in specs/
-pub mod Claims
+-- what is known of an opening that is accepted
+pub mod Accepted

@@ -1,3 +1,2 @@
 -- The length of a drawer.
 pub mod Answers
-pub mod Claims

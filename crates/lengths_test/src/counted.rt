@@ -1,41 +1,42 @@
-// The ways to choose, of up to 10 stations, against counting the rows one by one.
-use pascal::Answer;
+// All limits of a drawer, against counting the rings at or below each one by one; of kind 3, all rows with d holes.
+use crate::asked;
+use crate::drawers::Tally;
+use crate::drawers::nothing;
+use crate::drawers::one;
+use crate::drawers::sum;
+use test_rows::cases;
 
-// For each n and d, at place 16 n + d, how many rows there are.
-fn tally() -> [usize; 176] {
-    let mut tally = [0usize; 176];
-    let mut number: usize = 1;
-    while number < 2048 {
-        let n = test_rows::stations(number);
+fn more_if(count: usize, holds: bool) -> usize {
+    std::num::wrapping_add_usize(count, test_rows::one_if(holds))
+}
+
+fn rows_with(n: usize, d: usize) -> usize {
+    let rows = 1usize << (n % 16);
+    let mut counted: usize = 0;
+    let mut number: usize = 0;
+    while number < rows {
         let row = test_rows::row_of_number(n, number);
-        let place = n % 11 * 16 + test_rows::count(&row, 1) % 16;
-        tally[place] = std::num::wrapping_add_usize(tally[place], 1);
+        counted = more_if(counted, test_rows::count(&row, 1) == d);
+        number += 1;
+    }
+    counted
+}
+
+// The rows rise with their numbers. Summed: the lengths.
+pub fn compare(n: usize, d: usize, kind: u8) -> Tally {
+    let rows = 1usize << (n % 16);
+    let ceiling = rows_with(n, d);
+    let mut rings: usize = 0;
+    let mut tally = nothing();
+    let mut number: usize = 0;
+    while number < rows {
+        let row = test_rows::row_of_number(n, number);
+        rings = more_if(rings, test_rows::is_ring(&row, n, d, kind));
+        let due = if kind == 3 { ceiling } else { rings };
+        let told = asked::length(n, d, kind, cases::part(&row, 0, n));
+        let agrees = told.number == asked::given(kind) && told.rings == due;
+        tally = sum(tally, one(agrees, told.rings));
         number += 1;
     }
     tally
-}
-
-// Whether the look-up gives as many rows as there are, or refuses where there is none.
-fn agrees(n: usize, d: usize, rows: usize) -> bool {
-    let answer = pascal::ways(n, d);
-    match answer {
-        Answer::Ways(x) => x == rows as u64,
-        Answer::Refused(_) => rows == 0,
-    }
-}
-
-pub fn compare_all() {
-    let tally = tally();
-    let mut rows: usize = 0;
-    let mut agreed: usize = 0;
-    let mut place: usize = 0;
-    while place < 176 {
-        rows = std::num::wrapping_add_usize(rows, tally[place]);
-        agreed += test_rows::one_if(agrees(place / 16, place % 16, tally[place]));
-        place += 1;
-    }
-    test_rows::print_filled(
-        b"rows of up to 10 stations: rows # pairs 176 agreed #\n",
-        &[rows, agreed],
-    );
 }

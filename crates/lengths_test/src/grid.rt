@@ -1,134 +1,59 @@
-// Look-ups and ceilings of all small numbers and some large ones, against plain search.
-use crate::plain;
-use lengths::Length;
-use pascal::Answer;
+// Calls with numbers and limits in and out of range, in all combinations: what is refused, against a plain decision.
+use crate::asked;
+use test_rows::cases;
+use test_rows::openings;
 
-// How many numbers there are: 0 to 67, and some that are larger.
-const NUMBERS: usize = 73;
+// What was told, and whether it was due.
+struct Outcome {
+    told: usize,
+    agrees: bool,
+}
 
-fn number(i: usize) -> usize {
-    match i {
-        68 => 127,
-        69 => 256,
-        70 => 4294967296,
-        71 => 9223372036854775808,
-        72 => test_rows::MOST,
-        _ => i,
+fn due(n: usize, d: usize, kind: u8, length: usize, wrong: usize) -> usize {
+    let taken = 1 <= kind && kind <= 3;
+    let refusal = openings::row_refusal(n, d, taken, length, wrong);
+    if refusal == 0 {
+        asked::given(kind)
+    } else {
+        refusal
     }
 }
 
-// How many kinds: 0 to 4, and one that is larger.
-const KINDS: usize = 6;
-
-fn kind(i: usize) -> u8 {
-    match i {
-        0 => 0,
-        1 => 1,
-        2 => 2,
-        3 => 3,
-        4 => 4,
-        _ => 255,
+// Drawers and limits are numbered.
+fn ask(drawer: usize, i: usize) -> Outcome {
+    let n = openings::stations(drawer);
+    let d = openings::holes(drawer);
+    let kind = openings::kind(drawer);
+    let row = openings::numbered(i);
+    let bytes = row.bytes;
+    let told = asked::length(n, d, kind, cases::part(&bytes, 0, row.length));
+    Outcome {
+        told: told.number,
+        agrees: told.number == due(n, d, kind, row.length, row.wrong),
     }
 }
 
-// What was told: a refusal's number and place, or 0 and the ways.
-struct Told {
-    number: usize,
-    value: usize,
-}
-
-fn told_of_ways(answer: Answer) -> Told {
-    match answer {
-        Answer::Ways(x) => Told {
-            number: 0,
-            value: x as usize,
-        },
-        Answer::Refused(r) => Told {
-            number: test_rows::wide(refusal::number(r)),
-            value: refusal::place(r),
-        },
-    }
-}
-
-fn told_of_length(answer: Length) -> Told {
-    match answer {
-        Length::AtMost(x) => Told {
-            number: 0,
-            value: x as usize,
-        },
-        Length::Refused(r) => Told {
-            number: test_rows::wide(refusal::number(r)),
-            value: refusal::place(r),
-        },
-    }
-}
-
-// Whether the number is the one due, with the plain entry or place 0.
-fn is_due(told: Told, due: usize, entry: usize) -> bool {
-    let value = if due == 0 { entry } else { 0 };
-    told.number == due && told.value == value
-}
-
-fn ways_agree(
-    plain: &[usize; 4225],
-    lent: &[u64; pascal::ENTRIES],
-    top: usize,
-    bottom: usize,
-) -> bool {
-    let due = plain::ways_refusal(top, bottom);
-    let entry = plain::entry(plain, top, bottom);
-    is_due(told_of_ways(pascal::ways(top, bottom)), due, entry)
-        && is_due(told_of_ways(pascal::ways_in(lent, top, bottom)), due, entry)
-}
-
-fn ceiling_agrees(plain: &[usize; 4225], n: usize, d: usize, kind: u8) -> bool {
-    let due = plain::ceiling_refusal(n, d, kind);
-    is_due(
-        told_of_length(lengths::ceiling(n, d, kind)),
-        due,
-        plain::entry(plain, n, d),
-    )
-}
-
-fn compare_ways(plain: &[usize; 4225]) {
-    let lent = pascal::triangle();
-    let mut told = [0usize; 6];
-    let mut agreed: usize = 0;
-    let mut i: usize = 0;
-    while i < NUMBERS * NUMBERS {
-        let top = number(i / NUMBERS);
-        let bottom = number(i % NUMBERS);
-        let due = plain::ways_refusal(top, bottom) % 6;
-        told[due] = std::num::wrapping_add_usize(told[due], 1);
-        agreed += test_rows::one_if(ways_agree(plain, &lent, top, bottom));
-        i += 1;
-    }
+// How many calls told each number.
+fn print_numbers(numbers: &[usize; 7]) {
     test_rows::print_filled(
-        b"look-ups: calls # agreed # given # refused 1 # 2 #\n",
-        &[i, agreed, told[0], told[1], told[2]],
+        b"exactly # refused 1 # 2 # 3 # 4 # 5 # at most #\n",
+        numbers,
     );
 }
 
-fn compare_ceilings(plain: &[usize; 4225]) {
-    let mut told = [0usize; 6];
+pub fn compare() {
+    let mut numbers = [0usize; 7];
     let mut agreed: usize = 0;
+    let mut places: usize = 0;
     let mut i: usize = 0;
-    while i < NUMBERS * NUMBERS * KINDS {
-        let n = number(i / KINDS / NUMBERS);
-        let d = number(i / KINDS % NUMBERS);
-        let due = plain::ceiling_refusal(n, d, kind(i % KINDS)) % 6;
-        told[due] = std::num::wrapping_add_usize(told[due], 1);
-        agreed += test_rows::one_if(ceiling_agrees(plain, n, d, kind(i % KINDS)));
+    while i < openings::DRAWERS * openings::ROWS {
+        let outcome = ask(i / openings::ROWS, i % openings::ROWS);
+        let number = outcome.told / 100 % 7;
+        numbers[number] = std::num::wrapping_add_usize(numbers[number], 1);
+        agreed += test_rows::one_if(outcome.agrees);
+        places = std::num::wrapping_add_usize(places, outcome.told % 100);
         i += 1;
     }
-    test_rows::print_filled(
-        b"ceilings: calls # agreed # given # refused 1 # 2 # 5 #\n",
-        &[i, agreed, told[0], told[1], told[2], told[5]],
-    );
-}
-
-pub fn compare_all() {
-    let plain = plain::table();
-    compare_ways(&plain);
-    compare_ceilings(&plain);
+    test_rows::print_filled(b"calls # agreed # places # ", &[i, agreed, places]);
+    print_numbers(&numbers);
 }

@@ -1,13 +1,15 @@
-// The ways to choose and the ceilings of drawers: single cases, all tables and refusals against plain search, walks against their ceilings.
+// Lengths of drawers: single cases, all limits of short drawers against plain counting, walks and printed drawers against their lengths, and
+// a grid of refusals.
+mod asked;
 mod counted;
+mod drawers;
 mod grid;
-mod plain;
+mod printed;
 mod single;
 mod walked;
 
 fn main() {
     single::show_all();
-    counted::compare_all();
-    grid::compare_all();
-    walked::compare_all();
+    drawers::compare_all();
+    grid::compare();
 }

@@ -1,32 +1,25 @@
-// Single look-ups and ceilings: specimens, and the refusals in their order.
+// Lengths of single drawers: short and longest, and the refusals in their order. A case is the line that is printed, up to the answer.
 use lengths::Length;
-use pascal::Answer;
 use test_rows::cases;
-
-fn show_ways(line: &[u8]) {
-    let answer = pascal::ways(cases::number(line, 1), cases::number(line, 2));
-    match answer {
-        Answer::Ways(x) => test_rows::print_named(b"", x as usize),
-        Answer::Refused(r) => test_rows::print_refusal(r),
-    }
-}
-
-fn show_ceiling(line: &[u8]) {
-    let kind = cases::number_to(line, 3, 255) as u8;
-    let answer = lengths::ceiling(cases::number(line, 1), cases::number(line, 2), kind);
-    match answer {
-        Length::AtMost(x) => test_rows::print_named(b"", x as usize),
-        Length::Refused(r) => test_rows::print_refusal(r),
-    }
-}
 
 fn show(line: &[u8]) {
     io::write_all(1, line);
-    io::write_all(1, b": ");
-    if cases::first_byte(line) == b'w' {
-        show_ways(line);
-    } else {
-        show_ceiling(line);
+    let kind = cases::number_to(line, 3, 255) as u8;
+    let digits = cases::word(line, 4);
+    let row = cases::symbols(digits);
+    let length = lengths::drawer_length(
+        cases::number(line, 1),
+        cases::number(line, 2),
+        kind,
+        cases::part(&row, 0, digits.len()),
+    );
+    match length {
+        Length::Exactly(x) => test_rows::print_named(b": exactly ", x as usize),
+        Length::AtMost(x) => test_rows::print_named(b": at most ", x as usize),
+        Length::Refused(r) => {
+            io::write_all(1, b": ");
+            test_rows::print_refusal(r);
+        }
     }
     io::write_all(1, b"\n");
 }
@@ -42,40 +35,42 @@ fn show_lines(text: &[u8]) {
 
 pub fn show_all() {
     show_lines(
-        b"ways 0 0\n\
-          ways 1 1\n\
-          ways 6 3\n\
-          ways 64 0\n\
-          ways 64 31\n\
-          ways 64 32\n\
-          ways 64 33\n\
-          ways 64 64\n\
-          ways 65 0\n\
-          ways 65 66\n\
-          ways most most\n\
-          ways 0 1\n\
-          ways 64 65\n\
-          ways 3 most\n\
-          ceiling 6 3 1\n\
-          ceiling 6 3 2\n\
-          ceiling 1 0 1\n\
-          ceiling 1 1 2\n\
-          ceiling 64 32 1\n\
-          ceiling 64 32 2\n\
-          ceiling 64 32 3\n\
-          ceiling 4 2 3\n\
-          ceiling 0 0 1\n\
-          ceiling 65 0 1\n\
-          ceiling most most 1\n\
-          ceiling 0 1 0\n\
-          ceiling 65 66 4\n\
-          ceiling 4 5 1\n\
-          ceiling 64 65 2\n\
-          ceiling 4 most 1\n\
-          ceiling 4 5 0\n\
-          ceiling 4 5 4\n\
-          ceiling 4 4 0\n\
-          ceiling 4 2 4\n\
-          ceiling 64 64 255\n",
+        b"length 6 3 1 111111\n\
+          length 6 3 2 111111\n\
+          length 6 3 3 111111\n\
+          length 6 3 1 001101\n\
+          length 6 3 1 001100\n\
+          length 6 3 2 010101\n\
+          length 6 3 3 000000\n\
+          length 4 2 2 0101\n\
+          length 2 0 2 11\n\
+          length 1 0 2 0\n\
+          length 1 1 1 0\n\
+          length 8 3 1 00011000\n\
+          length 64 32 1 1111111111111111111111111111111111111111111111111111111111111111\n\
+          length 64 32 2 1111111111111111111111111111111111111111111111111111111111111111\n\
+          length 64 32 3 1111111111111111111111111111111111111111111111111111111111111111\n\
+          length 64 32 1 0101010101010101010101010101010101010101010101010101010101010101\n\
+          length 64 32 1 0000000000000000000000000000000100000000000000000000000000000000\n\
+          length 64 32 1 0000000000000000000000000000000011111111111111111111111111111111\n\
+          length 64 32 2 0000000000000000000000000000000011111111111111111111111111111110\n\
+          length 64 0 1 1111111111111111111111111111111111111111111111111111111111111111\n\
+          length 64 0 2 1111111111111111111111111111111111111111111111111111111111111111\n\
+          length 64 64 3 1111111111111111111111111111111111111111111111111111111111111111\n\
+          length 63 21 1 111111111111111111111111111111111111111111111111111111111111111\n\
+          length 63 21 2 111111111111111111111111111111111111111111111111111111111111111\n\
+          length 0 1 0 2\n\
+          length 65 66 4 2\n\
+          length most most 1 0\n\
+          length 4 5 4 2\n\
+          length 4 most 3 0101\n\
+          length 4 2 0 21\n\
+          length 4 2 4 0121\n\
+          length 4 2 255 0101\n\
+          length 4 2 3 012\n\
+          length 4 2 1 01012\n\
+          length 4 2 3 2013\n\
+          length 4 2 2 0102\n\
+          length 64 32 3 0000000000000000000000000000000000000000211111111111111111111111\n",
     );
 }

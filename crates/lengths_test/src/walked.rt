@@ -1,85 +1,41 @@
-// The rings of walks from n ones, against their ceilings.
-use lengths::Length;
+// The rings of walks to their end, against the length.
+use crate::asked;
+use crate::drawers::Tally;
+use test_rows::cases;
 use walk::Answer;
 use walk::Walk;
-ghost use Prim.Native.Nat.{_≤_};
-ghost use Rattle.refusal.specs.Verdicts.{mostStations};
 
-// More trials than any walk of up to 14 stations takes.
-const PLENTY: u64 = 16384;
+// More trials than any walk here takes, and more steps.
+pub const PLENTY: u64 = 16384;
 
-// How many rings a walk names, as far as they are at most `most`, and one more.
-fn rings(n: usize, d: usize, kind: u8, most: u64) -> u64
-    requires { ⌜ n ≤ mostStations ⌝ }
-{
-    let limit = [1u8; refusal::MOST_STATIONS];
-    let opened = Walk::open(n, d, kind, &limit[..n]);
+// The rings named before none; without end, the highest number.
+fn rings(n: usize, d: usize, kind: u8, limit: &[u8], allowance: u64) -> usize {
+    let opened = Walk::open(n, d, kind, limit);
     let mut walk = opened.walk;
-    let mut rings: u64 = 0;
-    let end = std::num::wrapping_add_u64(most, 1);
-    while rings < end {
-        let stepped = walk.step(PLENTY);
+    let mut rings: usize = 0;
+    let mut step: usize = 0;
+    while step < 16384 {
+        let stepped = walk.step(allowance);
         walk = stepped.walk;
         let answer = stepped.answer;
         match answer {
             Answer::Ring => {
-                rings += 1;
+                rings = std::num::wrapping_add_usize(rings, 1);
             }
             Answer::None => {
                 return rings;
             }
-            Answer::Refused(_) => {
-                return rings;
-            }
+            Answer::Refused(_) => {}
         }
+        step += 1;
     }
-    rings
+    test_rows::MOST
 }
 
-// The ceiling, 0 where it is refused.
-fn ceiling(n: usize, d: usize, kind: u8) -> u64 {
-    let answer = lengths::ceiling(n, d, kind);
-    match answer {
-        Length::AtMost(x) => x,
-        Length::Refused(_) => 0,
-    }
-}
-
-// All drawers of n stations and one kind.
-fn compare(n: usize, kind: u8)
-    requires { ⌜ n ≤ mostStations ⌝ }
-{
-    let mut within: usize = 0;
-    let mut named: u64 = 0;
-    let mut ceilings: u64 = 0;
-    let mut d: usize = 0;
-    while d <= n {
-        let most = ceiling(n, d, kind);
-        let rings = rings(n, d, kind, most);
-        within += test_rows::one_if(rings <= most);
-        named = std::num::wrapping_add_u64(named, rings);
-        ceilings = std::num::wrapping_add_u64(ceilings, most);
-        d += 1;
-    }
-    test_rows::print_filled(
-        b"n # kind #: drawers # within # rings # ceilings #\n",
-        &[
-            n,
-            test_rows::wide(kind),
-            d,
-            within,
-            named as usize,
-            ceilings as usize,
-        ],
-    );
-}
-
-pub fn compare_all() {
-    let mut n: usize = 1;
-    while n <= 14 {
-        compare(n, 1);
-        compare(n, 2);
-        compare(n, 3);
-        n += 1;
-    }
+// Summed: the rings.
+pub fn compare(n: usize, d: usize, kind: u8, limit: usize, allowance: u64) -> Tally {
+    let row = test_rows::row_of_number(n, limit);
+    let rings = rings(n, d, kind, cases::part(&row, 0, n), allowance);
+    let told = asked::length(n, d, kind, cases::part(&row, 0, n));
+    crate::drawers::one(asked::covers(told, kind, rings), rings)
 }

@@ -14,6 +14,8 @@ pub mod Numbers
 pub mod Starting
 -- what is read of an input
 pub mod Reading
+-- how many lines are printed
+pub mod PrintedLines
 -- document 01's example
 pub mod Examples
 -- what is claimed in specs/

@@ -3,14 +3,20 @@ use mathlib.Core.Bool.{false, true}
 use mathlib.Core.List.{List, _++_}
 use mathlib.Core.Logic.{_↔_}
 use mathlib.Core.Path.{_≡_}
-use Prim.Native.Nat.{ℕ, _<_, _≤_}
+use Prim.Native.Nat.{ℕ, _+_, _<_, _≤_}
 use lib.ListN.{length, take}
+use Rattle.density.specs.Lengths.{HowMany, atMost, drawerLength, exactly}
+use Rattle.drawer_input.specs.Input.{Asked, readDrawer}
 use Rattle.drawer_lines.specs.Lines.{longestLine}
 use Rattle.printing.specs.Left.{left}
 use Rattle.printing.specs.Pieces.{Fills, HandedOut}
 use Rattle.printing.specs.Text.{printed}
 use Rattle.printing.specs.declared.Filled.{Filled}
 use Rattle.printing.specs.declared.Printing.{Printing}
+use Rattle.refusal.specs.Outcomes.{given}
+use Rattle.refusal.specs.Verdicts.{accepted}
+use Rattle.text.specs.Parts.{lineFeeds}
+use Rattle.walk.specs.Opening.{openVerdict}
 
 -- from the start of an input's text on: what was handed out, and then what is left, is the printed text
 abbrev pub HandedPrinted : Type 0
@@ -27,3 +33,16 @@ abbrev pub LessLeft : Type 0
 LessLeft =
     (before after : List ℕ) (s : Printing) (f : Filled) → Fills s before after f → longestLine ≤ length before → f .done ≡ false
     → length (left (f .state)) < length (left s)
+
+-- ---- how many lines a printed drawer has
+
+-- as many as the rings, of which there are so many, the names and the last line
+abbrev pub LinesFor : HowMany → ℕ → Type 0
+LinesFor (exactly x) lines = lines ≡ x + 2
+LinesFor (atMost x) lines = lines ≤ x + 2
+
+-- "A printed drawer has that many lines plus two": an input that is read and opens a drawer
+abbrev pub PrintedLines : Type 0
+PrintedLines =
+    (input : List ℕ) (a : Asked) → readDrawer input ≡ given a → openVerdict (a .stations) (a .holes) (a .kind) (a .limit) ≡ accepted
+    → LinesFor (drawerLength (a .stations) (a .holes) (a .kind) (a .limit)) (lineFeeds (printed input))

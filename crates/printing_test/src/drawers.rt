@@ -32,7 +32,7 @@ pub fn drawer(n: usize, d: usize, kind: usize, limit: usize) -> Case {
 fn limit_of(case: Case) -> [u8; refusal::MOST_STATIONS]
     requires { ⌜ case .size ≤ mostStations ⌝ }
 {
-    let mut row = crate::plain::digits(case.size, case.limit);
+    let mut row = test_rows::digits_of_number(case.size, case.limit);
     let wrong = case.wrong;
     if wrong == 0 {
         return row;

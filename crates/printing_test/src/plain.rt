@@ -3,20 +3,6 @@ use test_walks::book::Book;
 ghost use mathlib.Core.Path.{_≡_};
 ghost use Prim.Native.Nat.{_<_, _≤_, _*_};
 ghost use lib.ListN.{length};
-ghost use Rattle.refusal.specs.Verdicts.{mostStations};
-
-// The last n binary digits of a number.
-pub fn digits(n: usize, number: usize) -> [u8; refusal::MOST_STATIONS]
-    requires { ⌜ n ≤ mostStations ⌝ }
-{
-    let mut row = test_rows::row_of_number(n, number);
-    let mut i: usize = 0;
-    while i < refusal::MOST_STATIONS {
-        row[i] = b'0' + row[i] % 2;
-        i += 1;
-    }
-    row
-}
 
 // A refusal's text.
 pub fn append_refusal(text: &mut [u8], number: usize, place: usize) -> usize
@@ -49,7 +35,7 @@ fn append_line(text: &mut [u8], at: usize, number: usize, n: usize, book: Book) 
     if book.none {
         return test_texts::fill(text, at, b"end - - #\n", book.owed, 0, 0, 0, b"");
     }
-    let row = digits(n, book.number);
+    let row = test_rows::digits_of_number(n, book.number);
     let period = period(n, book.number);
     test_texts::fill(
         text,

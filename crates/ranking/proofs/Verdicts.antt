@@ -1,5 +1,5 @@
 -- Kinds that are counted, and what is known where a rank or a ring at a seat is accepted.
-use mathlib.Core.Bool.{and-false, true}
+use mathlib.Core.Bool.{Bool, and-false, true}
 use mathlib.Core.List.{List}
 use mathlib.Core.Path.{ap, refl, _∙_, _≡_}
 use Prim.Native.Nat.{ℕ, _<_, _≤_}
@@ -7,7 +7,8 @@ use native.Mathlib.Omega.{arith}
 use lib.Dec.{leb}
 use lib.ListN.{length}
 use borrow.Author.Tests.{le-leb, lt-leb}
-use Rattle.density.proofs.DrawerVerdicts.{drawer→, needs-then, row→}
+use Rattle.density.proofs.Binary.{Binary}
+use Rattle.density.proofs.DrawerVerdicts.{InRange, drawer→, needs-then, row→}
 use Rattle.density.specs.Drawers.{drawerNeeds, drawerVerdict, openVerdict, rowNeeds}
 use Rattle.density.specs.Necklaces.{isKind}
 use Rattle.lyndon_below.specs.InnerTables.{Given}
@@ -54,16 +55,15 @@ pub record Ranked (n d kind : ℕ) (row : List ℕ) : Type 0 where
   pub long : length row ≡ n
   pub counted : isCounted kind ≡ true
 
+pub row-given : {n d : ℕ} {taken : Bool} {row : List ℕ} → InRange n d taken → length row ≡ n → Binary row → Given row d
+row-given i long binary = record { some = omega (arith, long, i .sized .some); few = omega (arith, long, i .sized .most); binary = binary; dense = omega (arith, long, i .dense) }
+
 pub ranked : (n d kind : ℕ) (row : List ℕ) → rankVerdict n d kind row ≡ accepted → Ranked n d kind row
 unfolding rankVerdict
 ranked n d kind row e =
     let i = drawer→ n d (isCounted kind) (rowNeeds n row) e in
     let r = row→ n row (i .1) in
-    record {
-      given = record { some = omega (arith, r .0, i .0 .sized .some); few = omega (arith, r .0, i .0 .sized .most); binary = r .1; dense = omega (arith, r .0, i .0 .dense) };
-      long = r .0;
-      counted = i .0 .kinds;
-    }
+    record { given = row-given (i .0) (r .0) (r .1); long = r .0; counted = i .0 .kinds }
 
 -- ---- the ring at a seat
 

@@ -2,7 +2,6 @@
 use crate::asked;
 use crate::drawers::Tally;
 use crate::drawers::more_if;
-use crate::plain;
 use test_rows::cases;
 
 // The rows rise with their numbers. Summed: the seats.
@@ -14,7 +13,7 @@ pub fn compare(n: usize, d: usize, kind: u8) -> Tally {
     let mut number: usize = 0;
     while number < rows {
         let row = test_rows::row_of_number(n, number);
-        counted = more_if(counted, plain::is_ring(&row, n, d, kind));
+        counted = more_if(counted, test_rows::is_ring(&row, n, d, kind));
         let seat = asked::seat_of(n, d, kind, cases::part(&row, 0, n));
         agreed = more_if(agreed, seat == counted);
         sum = std::num::wrapping_add_u64(sum, seat);

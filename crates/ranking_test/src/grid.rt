@@ -3,27 +3,22 @@ use crate::asked;
 use crate::plain;
 use ranking::Seat;
 use ranking::Seated;
-use refusal::Refusal;
 use test_rows::FRESH;
 use test_rows::cases;
+use test_rows::openings;
 ghost use Prim.Native.Nat.{_<_, _≤_};
-
-// 100 times a refusal's number, and its place.
-fn refused(r: Refusal) -> usize {
-    std::num::wrapping_add_usize(test_rows::wide(refusal::number(r)) * 100, refusal::place(r))
-}
 
 fn seat_told(seat: Seat) -> usize {
     match seat {
         Seat::Number(_) => 0,
-        Seat::Refused(r) => refused(r),
+        Seat::Refused(r) => openings::refused(r),
     }
 }
 
 fn ring_told(seated: Seated) -> usize {
     match seated {
         Seated::Written => 0,
-        Seated::Refused(r) => refused(r),
+        Seated::Refused(r) => openings::refused(r),
     }
 }
 
@@ -33,39 +28,14 @@ struct Outcome {
     agrees: bool,
 }
 
-// The place of the wrong byte in a row of so many symbols: none (0), the first or the last.
-fn wrong_place(i: usize, length: usize) -> usize {
-    if length == 0 {
-        return 0;
-    }
-    match i {
-        0 => 0,
-        1 => 1,
-        _ => length,
-    }
-}
-
-// Ones, and a wrong byte at the place.
-fn row_with(wrong: usize) -> [u8; 80] {
-    let mut row = [1u8; 80];
-    if wrong == 0 {
-        return row;
-    }
-    if 80 < wrong {
-        return row;
-    }
-    row[wrong - 1] = 2;
-    row
-}
-
 fn ask_seat(n: usize, d: usize, kind: u8, i: usize) -> Outcome {
-    let length = cases::number(b"0 1 2 7 64 65", i / 3 % 6);
-    let wrong = wrong_place(i % 3, length);
-    let row = row_with(wrong);
-    let told = seat_told(ranking::rank(n, d, kind, cases::part(&row, 0, length)));
+    let row = openings::numbered(i);
+    let bytes = row.bytes;
+    let told = seat_told(ranking::rank(n, d, kind, cases::part(&bytes, 0, row.length)));
+    let taken = plain::has_seats(kind);
     Outcome {
         told,
-        agrees: told == plain::seat_refusal(n, d, kind, length, wrong),
+        agrees: told == openings::row_refusal(n, d, taken, row.length, row.wrong),
     }
 }
 
@@ -90,17 +60,15 @@ fn ask_ring(n: usize, d: usize, kind: u8, i: usize) -> Outcome {
     }
 }
 
-// How many rows, or rooms with seats, there are for a drawer and kind.
-const ROWS: usize = 18;
-
+// How many rooms with seats there are for a drawer and kind.
 const SEATS: usize = 20;
 
 // Call i of a drawer and kind, which are numbered.
 fn ask(of: usize, drawer: usize, i: usize) -> Outcome {
-    let n = cases::number(b"0 1 2 7 64 65 most", drawer / 42);
-    let d = cases::number(b"0 1 2 64 65 66 most", drawer / 6 % 7);
-    let kind = cases::number_to(b"0 1 2 3 4 255", drawer % 6, 255) as u8;
-    if of == ROWS {
+    let n = openings::stations(drawer);
+    let d = openings::holes(drawer);
+    let kind = openings::kind(drawer);
+    if of == openings::ROWS {
         return ask_seat(n, d, kind, i);
     }
     ask_ring(n, d, kind, i)
@@ -114,7 +82,7 @@ fn print_numbers(numbers: &[usize; 14]) {
     );
 }
 
-// 7 numbers of stations, 7 of holes and 6 kinds, with so many calls each.
+// All drawers and kinds, with so many calls each.
 fn compare(of: usize)
     requires { ⌜ (0 < of) × (of ≤ 20) ⌝ }
 {
@@ -122,7 +90,7 @@ fn compare(of: usize)
     let mut agreed: usize = 0;
     let mut places: usize = 0;
     let mut i: usize = 0;
-    while i < 294 * of {
+    while i < openings::DRAWERS * of {
         let outcome = ask(of, i / of, i % of);
         let number = outcome.told / 100 % 14;
         numbers[number] = std::num::wrapping_add_usize(numbers[number], 1);
@@ -136,7 +104,7 @@ fn compare(of: usize)
 
 pub fn compare_all() {
     io::write_all(1, b"seats of rows: ");
-    compare(ROWS);
+    compare(openings::ROWS);
     io::write_all(1, b"rings at seats: ");
     compare(SEATS);
 }

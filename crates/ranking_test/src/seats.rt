@@ -2,14 +2,13 @@
 use crate::asked;
 use crate::drawers::Tally;
 use crate::drawers::more_if;
-use crate::plain;
 use ranking::Seated;
 use test_rows::FRESH;
 use test_rows::cases;
 
 // Whether the buffer has a ring of the drawer and kind at its front, and is otherwise as it was.
 fn holds_ring(out: &[u8; refusal::MOST_STATIONS], n: usize, d: usize, kind: u8) -> bool {
-    if !plain::is_ring(out, n, d, kind) {
+    if !test_rows::is_ring(out, n, d, kind) {
         return false;
     }
     let plain = test_rows::count(cases::part(out, 0, n), 0);

@@ -3,7 +3,9 @@ use mathlib.Core.List.{headD}
 use mathlib.Core.Path.{refl}
 use Rattle.binder.specs.Calls.{callAnswers}
 use Rattle.binder.specs.Names.{fetchVerdict, freshBinder, putVerdict, under}
+use Rattle.density.specs.Choose.{choose}
 use Rattle.density.specs.Density.{allRows, density}
+use Rattle.density.specs.Lengths.{drawerLength}
 use Rattle.density.specs.Necklaces.{begins, isKind, isNecklaceOf, largestNecklace, necklaces, necklacesOfKind, ofKind}
 use Rattle.density.specs.Ranks.{necklaceAt, rank}
 use Rattle.density.specs.Rows.{isPadded}
@@ -23,5 +25,5 @@ use Rattle.words.specs.Symbols.{allUpTo, firstWhere, firstWrong}
 use Rattle.words.specs.Tests.{allBelow, any, firstFrom, isPrefix, keep, someBelow}
 
 pub starred-hold : Say starred
-unfolding starred openVerdict areStations firstWrong firstWhere firstDifference cmp le lt same pairs cut upToUnequal allBelow someBelow firstFrom keep any isPrefix rotation isNecklace period isLeastAt leastIndex leastRotation lowerOf turnedKey isBracelet rotatesTo oneRing density allRows isNecklaceOf necklaces headD largestNecklace begins pitchesFrom pitchesOfRow walkPlaced stepOf fit fitAt fitSizes isPadded allUpTo run enough moveAt isKind ofKind isLyndon rank necklacesOfKind necklaceAt callAnswers putVerdict fetchVerdict under freshBinder
-starred-hold = ((refl, refl, refl), ((refl, refl, refl), (refl, (refl, (refl, (refl, (refl, ((refl, refl, refl), ((refl, refl, refl), ((refl, refl, refl), (refl, (refl, (refl, (refl, (refl, (refl, (refl, (refl, (refl, (refl, (refl, (refl, (refl, (refl, (refl, (refl, tt))))))))))))))))))))))))))
+unfolding starred openVerdict areStations firstWrong firstWhere firstDifference cmp le lt same pairs cut upToUnequal allBelow someBelow firstFrom keep any isPrefix rotation isNecklace period isLeastAt leastIndex leastRotation lowerOf turnedKey isBracelet rotatesTo oneRing density allRows isNecklaceOf necklaces headD largestNecklace begins pitchesFrom pitchesOfRow walkPlaced stepOf fit fitAt fitSizes isPadded allUpTo run enough moveAt isKind ofKind isLyndon rank necklacesOfKind necklaceAt drawerLength choose callAnswers putVerdict fetchVerdict under freshBinder
+starred-hold = ((refl, refl, refl), ((refl, refl, refl), (refl, (refl, (refl, (refl, (refl, ((refl, refl, refl), ((refl, refl, refl), ((refl, refl, refl), (refl, (refl, (refl, (refl, (refl, (refl, (refl, (refl, (refl, (refl, (refl, (refl, (refl, (refl, (refl, (refl, (refl, (refl, (refl, (refl, tt))))))))))))))))))))))))))))))

@@ -1,5 +1,5 @@
 -- The starred specimens of document 01, with the places of M-100, the pitches of M-110, the pairs of M-130, rings of M-140 that are turned
--- over, a bookmark of M-150 and seats of M-160, and what each says of the definitions.
+-- over, a bookmark of M-150, seats of M-160 and lengths of M-170, and what each says of the definitions.
 use mathlib.Core.Path.{_≡_}
 use mathlib.Core.Bool.{Bool, true, false}
 use mathlib.Core.List.{List, [], _∷_, _++_}
@@ -12,6 +12,7 @@ use Rattle.words.specs.Rotation.{leastRotation, leastIndex, period}
 use Rattle.words.specs.Symbols.{ones, zeros}
 use Rattle.words.specs.declared.Order.{Order}
 use Rattle.words.specs.declared.Order.the-variants.{Higher, Lower}
+use Rattle.density.specs.Lengths.{HowMany, atMost, drawerLength, exactly}
 use Rattle.density.specs.Necklaces.{begins, largestNecklace}
 use Rattle.density.specs.Ranks.{necklaceAt, rank}
 use Rattle.binder.specs.Calls.{Call, atFirst, callAnswers, fetches, opens, puts, steps}
@@ -41,6 +42,8 @@ pub data Specimen : Type 0 where
   seat : ℕ → ℕ → ℕ → List ℕ → ℕ → Specimen
   -- drawer (n, d), kind: the ring at a seat
   ringAt : ℕ → ℕ → ℕ → ℕ → List ℕ → Specimen
+  -- drawer (n, d), kind, limit: the length
+  rings : ℕ → ℕ → ℕ → List ℕ → HowMany → Specimen
   -- drawer (n, d), kind, limit: the first answer of the walk that opening hands out, its place and its trials
   step : ℕ → ℕ → ℕ → List ℕ → Line → ℕ → ℕ → Specimen
   -- openings, steps, puts and fetches: the answers of the steps
@@ -57,6 +60,7 @@ Says (turned w k) = turnedKey w ≡ k
 Says (fits a b answer) = oneRing a b ≡ answer
 Says (seat n d kind w number) = rank n d kind w ≡ number
 Says (ringAt n d kind number w) = necklaceAt n d kind number ≡ w
+Says (rings n d kind limit number) = drawerLength n d kind limit ≡ number
 Says (step n d kind limit line place trials) =
     walkPlaced rules (openWalk (openVerdict n d kind limit) rules n d kind limit) (100 ∷ []) ≡ placed (told (says line) trials) place ∷ []
 Says (calls cs answers) = callAnswers atFirst cs ≡ answers
@@ -85,6 +89,10 @@ starred =
     ∷ seat 6 3 1 (ones 6) 4
     ∷ seat 6 3 2 (ones 6) 3
     ∷ ringAt 6 3 1 3 (0 ∷ 0 ∷ 1 ∷ 1 ∷ 0 ∷ 1 ∷ [])
+    ∷ rings 6 3 1 (ones 6) (exactly 4)
+    ∷ rings 6 3 1 (0 ∷ 0 ∷ 1 ∷ 1 ∷ 0 ∷ 1 ∷ []) (exactly 3)
+    ∷ rings 6 3 2 (ones 6) (exactly 3)
+    ∷ rings 6 3 3 (ones 6) (atMost 20)
     ∷ step 8 3 1 (0 ∷ 0 ∷ 0 ∷ 1 ∷ 1 ∷ 0 ∷ 0 ∷ 0 ∷ []) (ring (0 ∷ 0 ∷ 0 ∷ 1 ∷ 0 ∷ 1 ∷ 0 ∷ 1 ∷ [])) 5 4
     ∷ step 8 3 1 (0 ∷ 0 ∷ 1 ∷ 0 ∷ 0 ∷ 1 ∷ 0 ∷ 0 ∷ []) (ring (0 ∷ 0 ∷ 0 ∷ 1 ∷ 1 ∷ 0 ∷ 0 ∷ 1 ∷ [])) 3 7
     ∷ step 8 3 1 (0 ∷ 0 ∷ 0 ∷ 0 ∷ 0 ∷ 1 ∷ 1 ∷ 0 ∷ []) none 0 2

@@ -1,5 +1,6 @@
 // Rows for the test programs: written as digits or numbered, and searched in the plainest way.
 pub mod cases;
+pub mod openings;
 
 use refusal::Refusal;
 ghost use Prim.Native.Nat.{_<_, _≤_};
@@ -118,6 +119,17 @@ pub fn row_of_number(n: usize, number: usize) -> [u8; refusal::MOST_STATIONS] {
     row
 }
 
+// The same row, as digits.
+pub fn digits_of_number(n: usize, number: usize) -> [u8; refusal::MOST_STATIONS] {
+    let mut row = row_of_number(n, number);
+    let mut i: usize = 0;
+    while i < refusal::MOST_STATIONS {
+        row[i] = b'0' + row[i] % 2;
+        i += 1;
+    }
+    row
+}
+
 // Symbol k of turn j.
 pub fn symbol(row: &[u8; refusal::MOST_STATIONS], n: usize, j: usize, k: usize) -> u8 {
     if n == 0 {
@@ -185,4 +197,27 @@ pub fn is_least(row: &[u8; refusal::MOST_STATIONS], n: usize, j: usize) -> bool 
         i += 1;
     }
     true
+}
+
+// Whether another turn gives the row back.
+fn has_symmetry(row: &[u8; refusal::MOST_STATIONS], n: usize) -> bool {
+    let mut j: usize = 1;
+    while j < n {
+        if turn_order(row, n, j, 0) == 1 {
+            return true;
+        }
+        j += 1;
+    }
+    false
+}
+
+// Whether the row is a ring of the drawer and kind, 1 or 2.
+pub fn is_ring(row: &[u8; refusal::MOST_STATIONS], n: usize, d: usize, kind: u8) -> bool {
+    if count(row, 1) != d {
+        return false;
+    }
+    if !is_least(row, n, 0) {
+        return false;
+    }
+    kind == 1 || !has_symmetry(row, n)
 }

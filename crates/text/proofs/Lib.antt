@@ -6,5 +6,7 @@ pub mod Numerals
 pub mod Written
 -- the digits of a number
 pub mod Digits
+-- the line feeds of a text
+pub mod LineFeeds
 -- what is claimed in specs/
 pub mod Claims

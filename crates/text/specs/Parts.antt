@@ -1,7 +1,7 @@
 -- The parts of a text, each from a place on: runs of bytes, numbers, and numbers with a space behind them.
 use mathlib.Core.Bool.{Bool, cond, not, _&&_, _||_}
 use mathlib.Core.List.{List, [], _∷_}
-use Prim.Native.Nat.{ℕ, _+_, _*_, _-_}
+use Prim.Native.Nat.{ℕ, suc, _+_, _*_, _-_}
 use lib.Dec.{eqb, leb}
 use lib.ListN.{length, drop, getD}
 use Rattle.words.specs.Tests.{isPrefix}
@@ -52,3 +52,8 @@ spaced s NoNumber = NoNumber
 
 unfoldable pub spacedAt : List ℕ → ℕ → Numeral
 spacedAt s at = spaced s (numeralAt s at)
+
+-- how many lines a text has, each ended by a line feed
+unfoldable pub lineFeeds : List ℕ → ℕ
+lineFeeds [] = 0
+lineFeeds (b ∷ s) = let more = lineFeeds s in cond (eqb b feed) (suc more) more

@@ -1,10 +1,11 @@
 -- The claims on opening a walk, and on the steps that follow, hold.
-use mathlib.Core.Bool.{_&&_}
+use mathlib.Core.Bool.{Bool, cond, false, true, _&&_}
 use mathlib.Core.List.{List, [], append-assoc, append-cancel-left, append-nil, _++_, _∷_}
 use mathlib.Core.Logic.{inl, inr, _↔_}
 use mathlib.Core.Path.{ap, refl, subst, sym, _∙_, _≡_}
 use Prim.Native.Nat.{suc, zero, ℕ, _*_, _-_, _<_, _^_, _≤_}
 use native.Mathlib.Omega.{arith}
+use lib.Dec.{eqb}
 use lib.ListN.{length, length-append}
 use Rattle.density.proofs.Binary.{binary-within}
 use Rattle.density.proofs.DrawerVerdicts.{drawer-chain, kind-tells, row-chain}
@@ -12,7 +13,10 @@ use Rattle.density.proofs.KindTests.{kinds-known}
 use Rattle.density.proofs.RankedRings.{rank-wanted}
 use Rattle.density.proofs.RowCounts.{few-rings}
 use Rattle.density.proofs.Wanted.{first-ring, next-ring, rings-falling}
+use Rattle.density.specs.Choose.{choose}
+use Rattle.density.specs.Lengths.{atMost, drawerLength, exactly}
 use Rattle.density.specs.Necklaces.{ofKind}
+use Rattle.density.specs.Ranks.{rank}
 use Rattle.listing.proofs.AllTrials.{all-prices, each-few, told-all}
 use Rattle.listing.proofs.ListingLeft.{Remaining, ended→, left-few, left→said, named-wanted, none→, owed-few, remaining, ring→, said→left, spent→, to-come, →ended, →none, →paid, →ring, →spent}
 use Rattle.listing.proofs.PlacesNamed.{ring-places}
@@ -30,7 +34,7 @@ use Rattle.walk.proofs.Demand.{Admitted, accepted-opening, answers-agre
 use Rattle.walk.proofs.Invariant.{Fit}
 use Rattle.walk.proofs.Places.{answers-placed}
 use Rattle.walk.proofs.StepAgrees.{step-agrees}
-use Rattle.walk.specs.Claims.{AllTrials, Ceiling, Demand3, Demand3Places, EndedNext, FirstRing, Kind1Trials, Kind2Trials, NamedAll, NamedFalling, NeverSpent, NeverSpentInAny, NeverUnfit, NextRing, NoneNext, OpenAccepts, OpenRefusals, Opening, RingNext, RingPlaces, SeatsGiven, SpentNext, TakenAlike, TakenListed, TrialsNext, answers, bookOf, given, next, opened, wantedOf}
+use Rattle.walk.specs.Claims.{AllTrials, Ceiling, Demand3, Demand3Places, EndedNext, FirstRing, Kind1Trials, Kind2Trials, LengthMet, Meets, NamedAll, NamedFalling, NeverSpent, NeverSpentInAny, NeverUnfit, NextRing, NoneNext, OpenAccepts, OpenRefusals, Opening, RingNext, RingPlaces, SeatsGiven, SpentNext, TakenAlike, TakenListed, TrialsNext, answers, bookOf, given, next, opened, wantedOf}
 use Rattle.walk.specs.Moves.{keptOf, rules}
 use Rattle.walk.specs.Opening.{NoCondition, NoKind, fresh, openConditions, openVerdict, openWalk}
 use Rattle.walk.specs.Step.{handed}
@@ -136,10 +140,20 @@ pub named-all : NamedAll
 unfolding ringsOf
 named-all o steps s = none-left o steps .0 (ap ringsOf (said-none o steps .0 s))
 
+-- the rings given are no more than those wanted
+given-few : (o : Opening) (steps : List ℕ) → length (given o steps) ≤ length (wantedOf o)
+given-few o steps = omega (arith, length-append (given o steps) (ringsOf (left o steps)), ap length (given-left o steps))
+
 pub ceiling : Ceiling
-ceiling o steps =
-    let all = sym (length-append (given o steps) (ringsOf (left o steps))) ∙ ap length (given-left o steps) in
-    omega (arith, all, few-rings (o .n) (o .d) (λ r. le r (o .limit) && ofKind (o .kind) r))
+ceiling o steps = omega (arith, given-few o steps, few-rings (o .n) (o .d) (λ r. le r (o .limit) && ofKind (o .kind) r))
+
+pub length-met : LengthMet
+unfolding drawerLength rank
+length-met o steps = go (eqb (o .kind) 3)
+  where
+    go : (t : Bool) → Meets (cond t (atMost (choose (o .n) (o .d))) (exactly (length (wantedOf o)))) (answers o steps)
+    go true = ceiling o steps
+    go false = (given-few o steps, λ s. ap length (named-all o steps s))
 
 pub seats-given : SeatsGiven
 seats-given o steps before ring more e =

@@ -6,6 +6,7 @@ use mathlib.Core.Path.{_≡_}
 use Prim.Native.Nat.{ℕ, _*_, _+_, _-_, _<_, _^_, _≤_}
 use lib.ListN.{length}
 use Rattle.density.specs.Choose.{choose}
+use Rattle.density.specs.Lengths.{HowMany, atMost, drawerLength, exactly}
 use Rattle.density.specs.Necklaces.{necklaces, ofKind, wanted}
 use Rattle.density.specs.Ranks.{rank}
 use Rattle.refusal.specs.Conditions.{FirstOf}
@@ -175,6 +176,16 @@ NamedAll = (o : Opening) (steps : List ℕ) → SaysNone (answers o steps) → g
 -- "A walk from any limit must yield at most that many": the ways to choose d stations of n, whatever the kind and the allowances
 abbrev pub Ceiling : Type 0
 Ceiling = (o : Opening) (steps : List ℕ) → length (given o steps) ≤ choose (o .n) (o .d)
+
+-- what a length says of some answers: they name at most so many rings and, where it is exact, just so many once none is reached
+abbrev pub Meets : HowMany → List Told → Type 0
+Meets (exactly x) told = (length (named told) ≤ x) × (SaysNone told → length (named told) ≡ x)
+Meets (atMost x) told = length (named told) ≤ x
+
+-- "The length must now be exactly the number of rings that the walk opened there yields to its end .. Kind 3 keeps the ceiling", whatever the
+-- allowances
+abbrev pub LengthMet : Type 0
+LengthMet = (o : Opening) (steps : List ℕ) → Meets (drawerLength (o .n) (o .d) (o .kind) (o .limit)) (answers o steps)
 
 -- "The r-th ring of a walk from n ones .. has seat total + 1 - r", whatever the allowances; of a walk from any limit, with the limit's seat
 -- for the total, which is the seat of n ones
