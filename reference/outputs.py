@@ -43,8 +43,9 @@ from rings import (
 
 PLENTY = 1000
 
-# drawers of up to 12 stations
+# drawers of up to 12 and to 14 stations
 TO_12 = [(n, d) for n in range(1, 13) for d in range(n + 1)]
+TO_14 = [(n, d) for n in range(1, 15) for d in range(n + 1)]
 
 # numbers of stations and holes, kinds, and rows of ones, in and out of range; with a wrong byte at no place, the first and the last
 DRAWERS = list(product((0, 1, 2, 7, 64, 65, MOST), (0, 1, 2, 64, 65, 66, MOST), (0, 1, 2, 3, 4, 255)))
@@ -347,16 +348,17 @@ def lengths_test():
     for kind in 1, 2, 3:
         counted = [length(n, d, kind, row) for n, d in TO_12 for row in product((0, 1), repeat=n)]
         print(f"all limits, kind {kind}: compared {len(counted)} agreed {len(counted)} sum {sum(counted)}")
-    assert all(len(rings_of(n, d, 3)) == bracelets(n, d) for n, d in TO_12)
-    opened_at = [(n, d, limit) for n, d in TO_12 for limit in some_limits(n)]
+    assert all(len(rings_of(n, d, 3)) == bracelets(n, d) for n, d in TO_14)
+    walked = [(n, d, limit) for n, d in TO_14 for limit in some_limits(n)]
     for allowed in "plenty", "1":
         for kind in 1, 2, 3:
-            rings = [len(book(n, d, kind, limit)) - 1 for n, d, limit in opened_at]
-            assert all(covers(n, d, kind, limit, named) for (n, d, limit), named in zip(opened_at, rings))
+            rings = [len(book(n, d, kind, limit)) - 1 for n, d, limit in walked]
+            assert all(covers(n, d, kind, limit, named) for (n, d, limit), named in zip(walked, rings))
             print(f"walks, {allowed} allowed, kind {kind}: compared {len(rings)} agreed {len(rings)} rings {sum(rings)}")
+    listed = [(n, d, limit) for n, d, limit in walked if n <= 12]
     for kind in 1, 2, 3:
-        made = [texts.drawer(values(n, d, kind, text(limit).encode())).count("\n") for n, d, limit in opened_at]
-        assert all(covers(n, d, kind, limit, printed - 2) for (n, d, limit), printed in zip(opened_at, made))
+        made = [texts.drawer(values(n, d, kind, text(limit).encode())).count("\n") for n, d, limit in listed]
+        assert all(covers(n, d, kind, limit, printed - 2) for (n, d, limit), printed in zip(listed, made))
         print(f"printed drawers, kind {kind}: compared {len(made)} agreed {len(made)} lines {sum(made)}")
     told = [(open_refusal(*asked, row) or (0, 0), asked[2] == 3) for asked in DRAWERS for row in ROWS]
     numbers = [6 if number == 0 and ceiling else number for (number, _), ceiling in told]

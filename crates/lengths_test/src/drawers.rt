@@ -1,4 +1,4 @@
-// Drawers of up to 12 stations, of each kind, at many limits.
+// Drawers of up to 12 or 14 stations, of each kind, at many limits.
 use crate::counted;
 use crate::printed;
 use crate::walked;
@@ -67,11 +67,15 @@ fn compare_drawer(what: usize, n: usize, d: usize, kind: u8) -> Tally {
     tally
 }
 
-// The pairs (n, d) are numbered, 16 n + d.
-fn compare(text: &[u8], what: usize, kind: u8) {
+// The pairs (n, d) are numbered, 16 n + d, up to an end.
+const TO_12: usize = 208;
+
+const TO_14: usize = 240;
+
+fn compare(text: &[u8], what: usize, end: usize, kind: u8) {
     let mut tally = nothing();
     let mut pair: usize = 16;
-    while pair < 208 {
+    while pair < end {
         if pair % 16 <= pair / 16 {
             tally = sum(tally, compare_drawer(what, pair / 16, pair % 16, kind));
         }
@@ -88,21 +92,27 @@ fn compare(text: &[u8], what: usize, kind: u8) {
     );
 }
 
-fn compare_kinds(text: &[u8], what: usize) {
-    compare(text, what, 1);
-    compare(text, what, 2);
-    compare(text, what, 3);
+fn compare_kinds(text: &[u8], what: usize, end: usize) {
+    compare(text, what, end, 1);
+    compare(text, what, end, 2);
+    compare(text, what, end, 3);
 }
 
 pub fn compare_all() {
-    compare_kinds(b"all limits, kind #: compared # agreed # sum #\n", 0);
+    compare_kinds(b"all limits, kind #: compared # agreed # sum #\n", 0, TO_12);
     compare_kinds(
         b"walks, plenty allowed, kind #: compared # agreed # rings #\n",
         1,
+        TO_14,
     );
     compare_kinds(
         b"walks, 1 allowed, kind #: compared # agreed # rings #\n",
         2,
+        TO_14,
     );
-    compare_kinds(b"printed drawers, kind #: compared # agreed # lines #\n", 3);
+    compare_kinds(
+        b"printed drawers, kind #: compared # agreed # lines #\n",
+        3,
+        TO_12,
+    );
 }

@@ -5,8 +5,11 @@ use test_rows::cases;
 use walk::Answer;
 use walk::Walk;
 
-// More trials than any walk here takes, and more steps.
+// More trials than any walk here takes.
 pub const PLENTY: u64 = 16384;
+
+// More steps: each but the last gives a ring or makes a trial.
+const STEPS: usize = 32768;
 
 // The rings named before none; without end, the highest number.
 fn rings(n: usize, d: usize, kind: u8, limit: &[u8], allowance: u64) -> usize {
@@ -14,7 +17,7 @@ fn rings(n: usize, d: usize, kind: u8, limit: &[u8], allowance: u64) -> usize {
     let mut walk = opened.walk;
     let mut rings: usize = 0;
     let mut step: usize = 0;
-    while step < 16384 {
+    while step < STEPS {
         let stepped = walk.step(allowance);
         walk = stepped.walk;
         let answer = stepped.answer;

@@ -5,10 +5,10 @@ use Rattle.lengths_test.proofs.walked.rings.Statement.{statement}
 use Rattle.lengths_test.proofs.walked.rings.Tie as tie
 
 abbrev Inv-loop : tie.InvT-loop
-Inv-loop n d kind limit allowance walk₀ rings₀ step₀ walk rings step = step ≤ 16384
+Inv-loop n d kind limit allowance walk₀ rings₀ step₀ walk rings step = step ≤ 32768
 
 abbrev μ-loop : tie.MeasureT-loop
-μ-loop n d kind limit allowance walk₀ rings₀ step₀ walk rings step = 16384 - step
+μ-loop n d kind limit allowance walk₀ rings₀ step₀ walk rings step = 32768 - step
 
 pub rings-spec : {M : Type 1} → statement M
 rings-spec =
