@@ -1,22 +1,23 @@
 -- The claims on bookmarks hold.
 use mathlib.Core.Bool.{Bool, false, true, true≢false}
-use mathlib.Core.List.{List, [], map, _++_, _∷_}
+use mathlib.Core.List.{List, List·Memᴰ, List·Memᴰ·cases-cons, List·Memᴰ·head, List·Memᴰ·not-nil, List·Memᴰ·tail, [], map, _++_, _∷_}
+use mathlib.Core.Logic.{inl, inr, _⊎_}
 use mathlib.Core.Path.{ap, ap₂, refl, subst, sym, _∙_, _≡_}
 use Prim.Native.Nat.{ℕ}
 use native.Mathlib.Omega.{arith}
-use lib.ListN.{length, length-append}
+use lib.ListN.{getD-replicate, length, length-append}
 use Rattle.density.specs.Choose.{choose}
 use Rattle.density.specs.Lengths.{drawerLength}
 use Rattle.listing.proofs.ListingLeft.{named-append}
 use Rattle.listing.specs.Listing.{listingAnswers}
 use Rattle.listing.specs.Places.{placed}
-use Rattle.listing.specs.Totals.{listingLeft, named}
+use Rattle.listing.specs.Totals.{SaysNone, listingLeft, named}
 use Rattle.refusal.proofs.Conditions.{Tells, at-most-tells, chain-first, passed, test}
 use Rattle.refusal.specs.Verdicts.{accepted}
 use Rattle.walk.proofs.Demand.{answers-agree, handed-stands, stays-fit}
-use Rattle.walk.proofs.OpeningClaims.{ceiling, length-met, named-falling, never-unfit, opened-fit, opened-stands, seats-given}
+use Rattle.walk.proofs.OpeningClaims.{ceiling, length-met, named-falling, never-unfit, opened-fit, opened-stands, reaches-none, refused-fields, seats-given}
 use Rattle.walk.proofs.StepLists.{answers-append, handed-sizes, placed-append, placed-told}
-use Rattle.walk.specs.Claims.{Meets, Opening, answers, bookOf, given, opened, placedAnswers}
+use Rattle.walk.specs.Claims.{Meets, Opening, RefusedWalk, answers, bookOf, given, opened, placedAnswers}
 use Rattle.walk.specs.Fit.{fit}
 use Rattle.walk.specs.Moves.{rules}
 use Rattle.walk.specs.Opening.{openVerdict, openWalk}
@@ -27,9 +28,9 @@ use Rattle.words.specs.Falling.{Falling}
 use Rattle.words.specs.Symbols.{ones}
 use Rattle.binder.proofs.LastPut.{fetches-last}
 use Rattle.binder.proofs.StoodWalks.{all-stood}
-use Rattle.binder.specs.Calls.{Call, Held, Stretch, afterCalls, allowances, atFirst, callAnswers, calling, fetches, opens, puts, putsIn, steps}
-use Rattle.binder.specs.Claims.{FetchRefusals, FetchesStood, PutRefusals, StandsFit, Stood, StretchAnswers, StretchCeiling, StretchFalling, StretchLength, StretchListed, StretchSeats, told}
-use Rattle.binder.specs.Names.{fetchVerdict, highestName, putVerdict, under}
+use Rattle.binder.specs.Calls.{Call, Held, Stays, Stretch, afterCalls, allowances, atFirst, callAnswers, calling, fetches, opens, puts, putsIn, steps}
+use Rattle.binder.specs.Claims.{FetchGives, FetchRefusals, FetchesStood, FreshNothing, PutRefusals, RefusedPut, StandsFit, StepOrPut, Stood, StretchAnswers, StretchCeiling, StretchExactly, StretchFalling, StretchLength, StretchListed, StretchReachesNone, StretchSeats, told}
+use Rattle.binder.specs.Names.{fetchVerdict, fetchWalk, freshBinder, highestName, nothing, putBinder, putVerdict, under}
 use Rattle.binder.specs.Puts.{afterPuts, fetched}
 
 -- a test fails exactly where it is false
@@ -43,6 +44,19 @@ put-refusals name w = chain-first (test _ (at-most-tells name highestName) (λ h
 pub fetch-refusals : FetchRefusals
 unfolding fetchVerdict
 fetch-refusals b name = chain-first (test _ (at-most-tells name highestName) (λ h. test _ (false-tells (under b name .put)) (λ f. passed)))
+
+pub refused-put : RefusedPut
+refused-put b name w r e = ap (λ v. putBinder v b name w) e
+
+pub fetch-gives : FetchGives
+fetch-gives b name = (
+  λ r e. subst (λ v. RefusedWalk (fetchWalk v b name)) (sym e) refused-fields,
+  λ e. ap (λ v. fetchWalk v b name) e,
+)
+
+pub fresh-nothing : FreshNothing
+unfolding freshBinder under
+fresh-nothing = (refl, λ name h. rw (getD-replicate 8 name nothing nothing (omega arith)) (refl, refused-fields))
 
 -- ---- calls
 
@@ -59,6 +73,28 @@ pub fetches-stood : FetchesStood
 fetches-stood calls name = ap (λ b. fetched b name) (calls-put atFirst calls) ∙ fetches-last (putsIn atFirst calls) name .last
 
 -- ---- stretches
+
+pub stretch-exactly : StretchExactly
+unfolding Stretch
+stretch-exactly [] = (λ t c m. absurd (List·Memᴰ·not-nil m), λ f. tt)
+stretch-exactly (c ∷ more) = (
+  λ t d m. among (t .0) d (stretch-exactly more .0 (t .1) d) (List·Memᴰ·cases-cons m),
+  λ f. (back c (f c (List·Memᴰ·head refl)), stretch-exactly more .1 (λ d m. f d (List·Memᴰ·tail m))),
+)
+  where
+    one : (c : Call) → Stays c → StepOrPut c
+    one (opens n d kind limit) s = absurd s
+    one (steps a) s = inl (a, refl)
+    one (puts name) s = inr (name, refl)
+    one (fetches name) s = absurd s
+
+    among : Stays c → (d : Call) → (List·Memᴰ d more → StepOrPut d) → (d ≡ c) ⊎ List·Memᴰ d more → StepOrPut d
+    among s d later (inl e) = subst StepOrPut (sym e) (one c s)
+    among s d later (inr m) = later m
+
+    back : (c : Call) → StepOrPut c → Stays c
+    back c (inl (a, e)) = subst Stays (sym e) tt
+    back c (inr (name, e)) = subst Stays (sym e) tt
 
 pub stands-fit : StandsFit
 stands-fit calls = let s = all-stood calls in (s, subst (λ w. fit rules w ≡ true) (s .same) (never-unfit (s .from) (s .steps)))
@@ -149,3 +185,25 @@ stretch-seats h n d kind stretch passes t before ring more e =
 pub stretch-length : StretchLength
 stretch-length h n d kind limit stretch passes t =
     subst (Meets (drawerLength n d kind limit)) (told-opened h n d kind limit stretch passes t) (length-met (opening n d kind limit passes) (allowances stretch))
+
+-- the steps with these allowances
+abbrev stepping : List ℕ → List Call
+stepping l = map steps l
+
+stepping-stretch : (l : List ℕ) → Stretch (stepping l)
+unfolding Stretch
+stepping-stretch [] = tt
+stepping-stretch (a ∷ l) = (tt, stepping-stretch l)
+
+stepping-allowed : (l : List ℕ) → allowances (stepping l) ≡ l
+unfolding allowances
+stepping-allowed [] = refl
+stepping-allowed (a ∷ l) = ap (λ t. a ∷ t) (stepping-allowed l)
+
+pub stretch-reaches-none : StretchReachesNone
+stretch-reaches-none h n d kind limit passes =
+    let o = opening n d kind limit passes in
+    let r = reaches-none o in
+    let t = stepping-stretch (r .0) in
+    let same = ap (answers o) (sym (stepping-allowed (r .0))) ∙ told-opened h n d kind limit (stepping (r .0)) passes t in
+    (stepping (r .0), t, subst SaysNone same (r .1))

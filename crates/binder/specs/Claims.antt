@@ -1,19 +1,21 @@
 -- What document 02 claims of bookmarks, each claim as a statement of its own.
 use mathlib.Core.Bool.{false, true}
-use mathlib.Core.List.{List, map, _++_, _∷_}
+use mathlib.Core.List.{List, List·Memᴰ, map, _++_, _∷_}
+use mathlib.Core.Logic.{_↔_, _⊎_}
 use mathlib.Core.Path.{_≡_}
-use Prim.Native.Nat.{suc, ℕ, _+_, _-_, _<_, _≤_}
+use Prim.Native.Nat.{ℕ, _+_, _-_, _<_, _≤_}
 use lib.ListN.{length}
 use Rattle.density.specs.Choose.{choose}
 use Rattle.density.specs.Lengths.{drawerLength}
 use Rattle.density.specs.Ranks.{rank, ringCount}
 use Rattle.listing.specs.Listing.{Told, listingAnswers}
-use Rattle.listing.specs.Totals.{listingLeft, named}
+use Rattle.listing.specs.Totals.{SaysNone, listingLeft, named}
 use Rattle.refusal.specs.Conditions.{Conditions, FirstOf, no-more, when}
 use Rattle.refusal.specs.Outcomes.{given}
-use Rattle.refusal.specs.Verdicts.{accepted}
+use Rattle.refusal.specs.Verdicts.{accepted, refused}
+use Rattle.refusal.specs.declared.Refusal.{Refusal}
 use Rattle.refusal.specs.declared.Refusal.the-variants.{Name, NothingPut, Unfit}
-use Rattle.walk.specs.Claims.{Meets, Opening, Record, bookOf, opened, placedAnswers}
+use Rattle.walk.specs.Claims.{Meets, Opening, Record, RefusedWalk, bookOf, opened, placedAnswers}
 use Rattle.walk.specs.Fit.{fit}
 use Rattle.walk.specs.Moves.{rules}
 use Rattle.walk.specs.Opening.{openVerdict}
@@ -22,36 +24,57 @@ use Rattle.walk.specs.ToCome.{stands}
 use Rattle.walk.specs.declared.Walk.{Walk}
 use Rattle.words.specs.Falling.{Falling}
 use Rattle.words.specs.Symbols.{ones}
-use Rattle.binder.specs.Calls.{Call, Held, Stretch, afterCalls, allowances, atFirst, callAnswers, calling, opens, putsIn}
-use Rattle.binder.specs.Names.{fetchOf, fetchVerdict, filed, freshBinder, highestName, putOf, putVerdict, under}
+use Rattle.binder.specs.Calls.{Call, Held, Stretch, afterCalls, allowances, atFirst, callAnswers, calling, opens, puts, putsIn, steps}
+use Rattle.binder.specs.Names.{fetchOf, fetchVerdict, filed, freshBinder, putOf, putVerdict, under}
 use Rattle.binder.specs.Puts.{Put, afterPuts, fetchDue, fetched}
 use Rattle.binder.specs.declared.Binder.{Binder}
 
 -- ---- any binder
 
+-- "12, name above 7"
+abbrev pub NoName : ℕ → Type 0
+NoName name = 7 < name
+
 -- "Put checks 12, then 22."
 abbrev pub putConditions : ℕ → Walk → Conditions
-putConditions name w = when (highestName < name) Name (when (fit rules w ≡ false) Unfit no-more)
+putConditions name w = when (NoName name) Name (when (fit rules w ≡ false) Unfit no-more)
 
 abbrev pub PutRefusals : Type 0
 PutRefusals = (name : ℕ) (w : Walk) → FirstOf (putConditions name w) (putVerdict name w)
 
 -- "12, name above 7, first; 23, nothing put under the name, after it"
 abbrev pub fetchConditions : Binder → ℕ → Conditions
-fetchConditions b name = when (highestName < name) Name (when (under b name .put ≡ false) NothingPut no-more)
+fetchConditions b name = when (NoName name) Name (when (under b name .put ≡ false) NothingPut no-more)
 
 abbrev pub FetchRefusals : Type 0
 FetchRefusals = (b : Binder) (name : ℕ) → FirstOf (fetchConditions b name) (fetchVerdict b name)
 
 -- a bookmark for each of the names 0 to 7
 abbrev pub Eight : Binder → Type 0
-Eight b = length (b .bookmarks) ≡ suc highestName
+Eight b = length (b .bookmarks) ≡ 8
 
 -- "Putting a walk under a name replaces what was there and touches no other name."
 abbrev pub PutReplaces : Type 0
 PutReplaces =
     (b : Binder) (name : ℕ) (w : Walk) → Eight b → putVerdict name w ≡ accepted
     → (under (putOf b name w) name ≡ filed w) × ((other : ℕ) → (other ≡ name → ⊥) → under (putOf b name w) other ≡ under b other)
+
+-- "A refused put hands the binder back as it was."
+abbrev pub RefusedPut : Type 0
+RefusedPut = (b : Binder) (name : ℕ) (w : Walk) (r : Refusal) → putVerdict name w ≡ refused r → putOf b name w ≡ b
+
+-- "A refused fetch gives the walk of a refused opening", and any other the walk under the name.
+abbrev pub FetchGives : Type 0
+FetchGives =
+    (b : Binder) (name : ℕ)
+    → ((r : Refusal) → fetchVerdict b name ≡ refused r → RefusedWalk (fetchOf b name))
+    × (fetchVerdict b name ≡ accepted → fetchOf b name ≡ under b name .walk)
+
+-- "A fresh binder has nothing put": under each of its eight names the walk of a refused opening stands beside the flag.
+abbrev pub FreshNothing : Type 0
+FreshNothing =
+    Eight freshBinder
+    × ((name : ℕ) → name ≤ 7 → (under freshBinder name .put ≡ false) × RefusedWalk (under freshBinder name .walk))
 
 -- ---- a list of puts on a fresh binder
 
@@ -85,6 +108,14 @@ pub record Stood (w : Walk) : Type 0 where
 -- the walk that stands after some calls is one, and is fit
 abbrev pub StandsFit : Type 0
 StandsFit = (calls : List Call) → let w = afterCalls atFirst calls .walk in Stood w × (fit rules w ≡ true)
+
+-- a call that is a step or a put
+abbrev pub StepOrPut : Call → Type 0
+StepOrPut c = ((a : ℕ) × (c ≡ steps a)) ⊎ ((name : ℕ) × (c ≡ puts name))
+
+-- every list of steps and puts is a stretch, and no other is
+abbrev pub StretchExactly : Type 0
+StretchExactly = (calls : List Call) → Stretch calls ↔ ((c : Call) → List·Memᴰ c calls → StepOrPut c)
 
 -- the answers of a stretch, whatever is held, are those of the walk that stands: puts don't show
 abbrev pub StretchAnswers : Type 0
@@ -131,3 +162,9 @@ abbrev pub StretchLength : Type 0
 StretchLength =
     (h : Held) (n d kind : ℕ) (limit : List ℕ) (stretch : List Call) → openVerdict n d kind limit ≡ accepted → Stretch stretch
     → Meets (drawerLength n d kind limit) (told (calling h (opens n d kind limit)) stretch)
+
+-- every opening is followed by some stretch that says none, whatever is held
+abbrev pub StretchReachesNone : Type 0
+StretchReachesNone =
+    (h : Held) (n d kind : ℕ) (limit : List ℕ) → openVerdict n d kind limit ≡ accepted
+    → (stretch : List Call) × Stretch stretch × SaysNone (told (calling h (opens n d kind limit)) stretch)

@@ -1,17 +1,19 @@
 -- The claims on the drawers hold, over every n and d.
 use mathlib.Core.Bool.{Bool}
-use mathlib.Core.List.{List, List·Memᴰ}
-use mathlib.Core.Path.{refl, subst}
-use Prim.Native.Nat.{ℕ}
+use mathlib.Core.List.{List, List·Memᴰ, [], _∷_}
+use mathlib.Core.Path.{refl, subst, _≡_}
+use Prim.Native.Nat.{suc, zero, ℕ}
 use borrow.Author.Tests.{eq-eqb, eqb-true}
 use lib.Dec.{eqb}
 use Rattle.density.proofs.Binary.{within-binary, binary-within}
+use Rattle.density.proofs.Counts.{density-append}
 use Rattle.density.proofs.Enumeration.{in-rows, out-rows, rows-falling}
 use Rattle.density.proofs.Members.{member→, necklaces-falling, →member}
 use Rattle.density.proofs.RowCounts.{choose-all, choose-past, rows-number}
 use Rattle.density.specs.Choose.{choose, rowsOf}
 use Rattle.density.specs.Density.{allRows, density}
-use Rattle.density.specs.Claims.{Chosen, Drawer, InDrawer, Kinds, OfDensity, Rule}
+use Rattle.density.specs.Claims.{Chosen, Drawer, HolesCounted, InDrawer, Kinds, LengthByKind, OfDensity, Rule}
+use Rattle.density.specs.Lengths.{drawerLength}
 use Rattle.density.specs.Necklaces.{necklaces, necklacesOfKind, ofKind}
 use Rattle.words.proofs.Falling.{keep-falling}
 use Rattle.words.proofs.Lists.{keep→, →keep}
@@ -19,6 +21,19 @@ use Rattle.words.proofs.OrderTests.{same→, →same}
 use Rattle.words.proofs.Rotations.{isNecklace→, →isNecklace}
 use Rattle.words.specs.Reversal.{isBracelet, turnedKey}
 use Rattle.words.specs.Tests.{keep}
+
+pub holes-counted : HolesCounted
+unfolding density
+holes-counted u v x = (density-append u v, refl, other x)
+  where
+    other : (x : ℕ) → (x ≡ 1 → ⊥) → density (x ∷ []) ≡ 0
+    other zero h = refl
+    other (suc zero) h = absurd (h refl)
+    other (suc (suc x)) h = refl
+
+pub length-by-kind : LengthByKind
+unfolding drawerLength
+length-by-kind n d limit = (refl, refl, refl)
 
 pub rule : Rule
 unfolding choose

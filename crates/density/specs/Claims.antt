@@ -1,12 +1,13 @@
 -- What document 01 claims of the drawers.
 use mathlib.Core.Bool.{true}
-use mathlib.Core.List.{List, List·Memᴰ}
+use mathlib.Core.List.{List, List·Memᴰ, [], _++_, _∷_}
 use mathlib.Core.Logic.{_↔_}
 use mathlib.Core.Path.{_≡_}
 use Prim.Native.Nat.{suc, ℕ, _+_, _<_, _≤_}
 use lib.ListN.{length}
 use Rattle.density.specs.Choose.{choose, rowsOf}
 use Rattle.density.specs.Density.{density}
+use Rattle.density.specs.Lengths.{atMost, drawerLength, exactly}
 use Rattle.density.specs.Necklaces.{necklaces, necklacesOfKind}
 use Rattle.density.specs.Ranks.{necklaceAt, rank, ringCount}
 use Rattle.words.specs.Symbols.{Within}
@@ -14,6 +15,14 @@ use Rattle.words.specs.Falling.{Falling}
 use Rattle.words.specs.Order.{lt}
 use Rattle.words.specs.Reversal.{SameRing, turnedKey}
 use Rattle.words.specs.Rotation.{isLyndon, isNecklace}
+
+-- ---- holes
+
+-- The holes of a row are those of its parts together; the symbol 1 is a hole, and no other is.
+abbrev pub HolesCounted : Type 0
+HolesCounted =
+    (u v : List ℕ) (x : ℕ)
+    → (density (u ++ v) ≡ density u + density v) × (density (1 ∷ []) ≡ 1) × ((x ≡ 1 → ⊥) → density (x ∷ []) ≡ 0)
 
 -- ---- the ways to choose stations
 
@@ -68,7 +77,7 @@ SeatOfRing =
     (n d kind seat : ℕ) → 1 ≤ seat → seat ≤ ringCount n d kind
     → List·Memᴰ (necklaceAt n d kind seat) (necklacesOfKind kind n d) × (rank n d kind (necklaceAt n d kind seat) ≡ seat)
 
--- "The ring at the seat of a ring is that ring", and its seat is one of those.
+-- The ring at the seat of a ring is that ring, and its seat is one of those.
 abbrev pub RingAtSeat : Type 0
 RingAtSeat =
     (n d kind : ℕ) (w : List ℕ) → List·Memᴰ w (necklacesOfKind kind n d) → let seat = rank n d kind w in
@@ -79,3 +88,13 @@ abbrev pub SeatsRise : Type 0
 SeatsRise =
     (n d kind : ℕ) (v w : List ℕ) → lt v w ≡ true
     → (rank n d kind v ≤ rank n d kind w) × (List·Memᴰ w (necklacesOfKind kind n d) → rank n d kind v < rank n d kind w)
+
+-- ---- lengths
+
+-- "For kinds 1 and 2 .. exactly": the seat of the limit. "Kind 3 keeps the ceiling": the ways to choose d stations of n.
+abbrev pub LengthByKind : Type 0
+LengthByKind =
+    (n d : ℕ) (limit : List ℕ)
+    → (drawerLength n d 1 limit ≡ exactly (rank n d 1 limit))
+    × (drawerLength n d 2 limit ≡ exactly (rank n d 2 limit))
+    × (drawerLength n d 3 limit ≡ atMost (choose n d))

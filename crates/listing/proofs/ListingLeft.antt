@@ -231,3 +231,11 @@ left-few (a ∷ more) m = left-few more (step-few m a)
 pub owed-few : {b : ℕ} {l : Listing} → AtMost b l → owed l ≤ b
 owed-few all-over = omega arith
 owed-few (and-then h m) = h
+
+-- steps that are allowed what each line costs leave nothing
+pub all-paid : {l : Listing} → Closed l → (steps : List ℕ) × (listingLeft l steps ≡ over)
+unfolding listingLeft listingStep
+all-paid (last {p = p}) = (p ∷ [], ap (λ b. listingLeft (pay b none p over p .left) []) (le-ltb p p (omega arith)))
+all-paid (line {r = r} {p = p} {l = l} c) =
+    let h = all-paid c in
+    (p ∷ h .0, ap (λ b. listingLeft (pay b (ring r) p l p .left) (h .0)) (le-ltb p p (omega arith)) ∙ h .1)

@@ -6,3 +6,5 @@ pub mod Numbers
 pub mod Conditions
 -- an outcome and its verdict
 pub mod Outcomes
+-- every number, and lent buffers
+pub mod Claims

@@ -1,10 +1,13 @@
--- What a step does with the row kept, and the place that it carries: moves leave that row alone, the answer settles both.
+-- What a step does with the row kept, and the place that it carries: moves leave that row alone, the answer settles both. Where it stands
+-- after an answer.
 use mathlib.Core.Bool.{Bool, false, true}
 use mathlib.Core.List.{List, [], _++_, _∷_}
+use mathlib.Core.Path.{refl, _≡_}
 use Prim.Native.Nat.{suc, zero, ℕ}
 use lib.Dec.{ltb}
-use lib.ListN.{getD, take}
+use lib.ListN.{getD, length, take}
 use Rattle.density.specs.Necklaces.{begins, isNecklaceOf}
+use Rattle.refusal.specs.Refusals.{placeOf}
 use Rattle.refusal.specs.declared.Refusal.{Refusal}
 use Rattle.refusal.specs.declared.Refusal.the-variants.{Ended as HasEnded, Spent, Unfit}
 use Rattle.walk.specs.Fit.{fit}
@@ -15,20 +18,21 @@ use Rattle.walk.specs.declared.Standing.{Standing}
 use Rattle.walk.specs.declared.Standing.the-variants.{Down, Ended, Given, Limit, Up}
 use Rattle.walk.specs.declared.Stepped.{Stepped}
 use Rattle.walk.specs.declared.Walk.{Walk}
+use Rattle.words.specs.Symbols.{zeros}
 
 -- where a move goes from w: to w with another row, standing elsewhere; after none it has ended
 pub data Goes (w : Walk) : Move → Type 0 where
   goes-free : (row : List ℕ) (at : Standing) → Goes w (free (moved w row at))
   goes-trial : (row : List ℕ) (at : Standing) → Goes w (trial (moved w row at))
-  to-ring : (row : List ℕ) (at : Standing) → Goes w (answer Ring (moved w row at))
-  to-none : (row : List ℕ) → Goes w (answer None (moved w row Ended))
-  to-refusal : (r : Refusal) → Goes w (answer (Refused r) w)
+  to-ring : (row : List ℕ) → Goes w (answer Ring (moved w row Given))
+  to-none : (k : ℕ) → Goes w (answer None (moved w (zeros k) Ended))
+  to-refusal : (r : Refusal) → placeOf r ≡ 0 → Goes w (answer (Refused r) w)
 
 -- what a step of w hands back
 pub data Returns (w : Walk) : Stepped → Type 0 where
-  ring-of : (row : List ℕ) (at : Standing) (t : ℕ) → Returns w (stepped (moved w row at) Ring t)
-  none-of : (row : List ℕ) (t : ℕ) → Returns w (stepped (moved w row Ended) None t)
-  refusal-of : (r : Refusal) (row : List ℕ) (at : Standing) (t : ℕ) → Returns w (stepped (moved w row at) (Refused r) t)
+  ring-of : (row : List ℕ) (t : ℕ) → Returns w (stepped (moved w row Given) Ring t)
+  none-of : (k t : ℕ) → Returns w (stepped (moved w (zeros k) Ended) None t)
+  refusal-of : (r : Refusal) → placeOf r ≡ 0 → (row : List ℕ) (at : Standing) (t : ℕ) → Returns w (stepped (moved w row at) (Refused r) t)
 
 module _ (R : Rules) where
   module _ (w : Walk) where
@@ -53,7 +57,7 @@ module _ (R : Rules) where
     up-goes false i = go (R .ofKind (w .kind) (rowOf w))
       where
         go : (b : Bool) → Goes w (foundMove b w)
-        go true = to-ring _ _
+        go true = to-ring _
         go false = goes-free _ _
 
     below-goes : (d : ℕ) → Goes w (free (goneBelow d w))
@@ -63,31 +67,31 @@ module _ (R : Rules) where
     goes : (s : Standing) → Goes w (moveAt R s w)
     unfolding moveAt
     goes Limit = limit-goes (isNecklaceOf (w .d) (rowOf w))
-    goes (Down zero) = to-none _
+    goes (Down zero) = to-none (length (w .row))
     goes (Down (suc q)) = down-goes (getD (w .row) q 0) q
-    goes (Up zero) = to-none _
+    goes (Up zero) = to-none (length (w .row))
     goes (Up (suc i)) = up-goes (ltb i (w .n)) i
     goes Given = below-goes (w .d)
-    goes Ended = to-refusal HasEnded
+    goes Ended = to-refusal HasEnded refl
 
   -- after a move more
   earlier : {w : Walk} {row : List ℕ} {at : Standing} {r : Stepped} → Returns (moved w row at) r → Returns w r
-  earlier (ring-of row at t) = ring-of row at t
-  earlier (none-of row t) = none-of row t
-  earlier (refusal-of r row at t) = refusal-of r row at t
+  earlier (ring-of row t) = ring-of row t
+  earlier (none-of k t) = none-of k t
+  earlier (refusal-of r p row at t) = refusal-of r p row at t
 
   run-returns : (f k t : ℕ) (w : Walk) → Returns w (run R f k t w)
   unfolding run
-  run-returns zero k t w = refusal-of Spent (w .row) (w .at) t
+  run-returns zero k t w = refusal-of Spent refl (w .row) (w .at) t
   run-returns (suc f) k t w = go k (goes w (w .at)) (run-returns f)
     where
       go : (k : ℕ) {m : Move} → Goes w m → ((k t : ℕ) (v : Walk) → Returns v (run R f k t v)) → Returns w (after m k t w (run R f))
       go k (goes-free row at) ih = earlier (ih k t (moved w row at))
-      go zero (goes-trial row at) ih = refusal-of Spent (w .row) (w .at) t
+      go zero (goes-trial row at) ih = refusal-of Spent refl (w .row) (w .at) t
       go (suc k) (goes-trial row at) ih = earlier (ih k (suc t) (moved w row at))
-      go k (to-ring row at) ih = ring-of row at t
-      go k (to-none row) ih = none-of row t
-      go k (to-refusal r) ih = refusal-of r (w .row) (w .at) t
+      go k (to-ring row) ih = ring-of row t
+      go k (to-none z) ih = none-of z t
+      go k (to-refusal r p) ih = refusal-of r p (w .row) (w .at) t
 
   pub step-returns : (w : Walk) (a : ℕ) → Returns w (stepOf R w a)
   unfolding stepOf
@@ -95,4 +99,4 @@ module _ (R : Rules) where
     where
       go : (b : Bool) → Returns w (stepFit R b w a)
       go true = run-returns _ a 0 w
-      go false = refusal-of Unfit (w .row) (w .at) 0
+      go false = refusal-of Unfit refl (w .row) (w .at) 0

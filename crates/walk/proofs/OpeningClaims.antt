@@ -18,7 +18,7 @@ use Rattle.density.specs.Lengths.{atMost, drawerLength, exactly}
 use Rattle.density.specs.Necklaces.{ofKind}
 use Rattle.density.specs.Ranks.{rank}
 use Rattle.listing.proofs.AllTrials.{all-prices, each-few, told-all}
-use Rattle.listing.proofs.ListingLeft.{Remaining, ended→, left-few, left→said, named-wanted, none→, owed-few, remaining, ring→, said→left, spent→, to-come, →ended, →none, →paid, →ring, →spent}
+use Rattle.listing.proofs.ListingLeft.{Remaining, all-paid, ended→, left-few, left→said, named-wanted, none→, owed-few, remaining, ring→, said→left, spent→, to-come, →ended, →none, →paid, →ring, →spent}
 use Rattle.listing.proofs.PlacesNamed.{ring-places}
 use Rattle.listing.proofs.Prices.{raise-zero}
 use Rattle.listing.proofs.Strikes.{Closed, listing-closed}
@@ -34,9 +34,9 @@ use Rattle.walk.proofs.Demand.{Admitted, accepted-opening, answers-agre
 use Rattle.walk.proofs.Invariant.{Fit}
 use Rattle.walk.proofs.Places.{answers-placed}
 use Rattle.walk.proofs.StepAgrees.{step-agrees}
-use Rattle.walk.specs.Claims.{AllTrials, Ceiling, Demand3, Demand3Places, EndedNext, FirstRing, Kind1Trials, Kind2Trials, LengthMet, Meets, NamedAll, NamedFalling, NeverSpent, NeverSpentInAny, NeverUnfit, NextRing, NoneNext, OpenAccepts, OpenRefusals, Opening, RingNext, RingPlaces, SeatsGiven, SpentNext, TakenAlike, TakenListed, TrialsNext, answers, bookOf, given, next, opened, wantedOf}
+use Rattle.walk.specs.Claims.{AllTrials, Ceiling, Demand3, Demand3Places, EndedNext, FirstRing, Kind1Trials, Kind2Trials, LengthMet, Meets, NamedAll, NamedFalling, NeverSpent, NeverSpentInAny, NeverUnfit, NextRing, NoneNext, OpenAccepts, OpenRefusals, OpenedWalk, Opening, ReachesNone, RefusedOpening, RefusedWalk, RingNext, RingPlaces, SeatsGiven, SpentNext, TakenAlike, TakenListed, TrialsNext, answers, bookOf, given, next, opened, wantedOf}
 use Rattle.walk.specs.Moves.{keptOf, rules}
-use Rattle.walk.specs.Opening.{NoCondition, NoKind, fresh, openConditions, openVerdict, openWalk}
+use Rattle.walk.specs.Opening.{NoCondition, NoKind, fresh, openConditions, openVerdict, openWalk, refusedWalk}
 use Rattle.walk.specs.Step.{handed}
 use Rattle.walk.specs.ToCome.{stands}
 use Rattle.words.specs.Order.{le}
@@ -66,6 +66,12 @@ open-accepts n d kind limit = (admits, λ c. accepted-exactly (openConditions n 
     none-holds : NoCondition n d kind limit → NoneHolds (openConditions n d kind limit)
     none-holds c = (stations c, (λ h. omega (arith, c .holes), (kinds (c .kinds), (λ h. h (c .long), (λ o. omega (arith, o .here, c .symbols (o .before) (o .inside)), tt)))))
 
+pub refused-fields : RefusedWalk (refusedWalk rules)
+refused-fields = record { n = refl; d = refl; kind = refl; at = refl; row = refl; kept = refl }
+
+pub refused-opening : RefusedOpening
+refused-opening n d kind limit r e = subst (λ v. RefusedWalk (openWalk v rules n d kind limit)) (sym e) refused-fields
+
 -- ---- after an opening
 
 module _ (o : Opening) where
@@ -86,6 +92,9 @@ module _ (o : Opening) where
 
   book-closed : Closed (bookOf o)
   book-closed = listing-closed (o .n) (o .d) (ofKind (o .kind)) (o .limit)
+
+pub opened-walk : OpenedWalk
+opened-walk o = rw (same-walk o) (refl, refl, refl, refl, refl, refl)
 
 pub demand-3 : Demand3
 demand-3 o steps = answers-agree rules (opened o) (opened-fit o) steps ∙ ap (λ l. listingAnswers l steps) (opened-stands o)
@@ -139,6 +148,9 @@ named-falling o steps = rings-falling (o .n) (o .d) (ofKind (o .kind)) (o .limit
 pub named-all : NamedAll
 unfolding ringsOf
 named-all o steps s = none-left o steps .0 (ap ringsOf (said-none o steps .0 s))
+
+pub reaches-none : ReachesNone
+reaches-none o = let h = all-paid (book-closed o) in (h .0, said-none o (h .0) .1 (h .1))
 
 -- the rings given are no more than those wanted
 given-few : (o : Opening) (steps : List ℕ) → length (given o steps) ≤ length (wantedOf o)

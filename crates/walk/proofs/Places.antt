@@ -27,9 +27,9 @@ pub kept-step : KeptStep
 kept-step w a = go (step-returns rules w a)
   where
     go : {r : Stepped} → Returns w r → KeptBy (r .answer) w r
-    go (ring-of row at t) = (refl, refl)
-    go (none-of row t) = (refl, refl)
-    go (refusal-of x row at t) = (refl, refl)
+    go (ring-of row t) = (refl, refl)
+    go (none-of k t) = (refl, refl)
+    go (refusal-of x p row at t) = (refl, refl)
 
 -- ---- one step of a fit record, in the book's terms
 
@@ -43,15 +43,15 @@ some-row {w = w} f = let s = fit-sound f in omega (arith, length-take-le (w .n) 
 module _ {R : Rules} {w : Walk} where
   -- the place carried
   carried : {r : Stepped} → Returns w r → Fit R (r .walk) → stepNumbers r .leaves ≡ placeFrom (keptOf w) (saidOf r)
-  carried (ring-of row at t) f = rw (said-row _ (some-row f))
-  carried (none-of row t) f = refl
-  carried (refusal-of x row at t) f = rw (some-number x .1)
+  carried (ring-of row t) f = rw (said-row _ (some-row f))
+  carried (none-of k t) f = refl
+  carried (refusal-of x p row at t) f = rw (some-number x .1)
 
   -- the row kept then, if anything follows
   kept-then : {r : Stepped} → Returns w r → Fit R (r .walk) → (keptOf (r .walk) ≡ keptThen (keptOf w) (saidOf r)) ⊎ (r .walk .at ≡ Ended)
-  kept-then (ring-of row at t) f = inl (rw (said-row _ (some-row f)))
-  kept-then (none-of row t) f = inr refl
-  kept-then (refusal-of x row at t) f = inl (rw (some-number x .1))
+  kept-then (ring-of row t) f = inl (rw (said-row _ (some-row f)))
+  kept-then (none-of k t) f = inr refl
+  kept-then (refusal-of x p row at t) f = inl (rw (some-number x .1))
 
 -- ---- a list of steps
 

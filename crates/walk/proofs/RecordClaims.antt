@@ -1,15 +1,18 @@
 -- The claims on a step of any record hold.
 use mathlib.Core.Bool.{false, true, true≢false}
+use mathlib.Core.List.{[]}
 use mathlib.Core.Logic.{inl, inr, _↔_, _⊎_}
-use mathlib.Core.Path.{ap, sym, _∙_, _≡_}
+use mathlib.Core.Path.{ap, refl, sym, _∙_, _≡_}
 use Prim.Native.Nat.{_<_, _≤_}
 use native.Mathlib.Omega.{arith}
 use Rattle.listing.specs.Totals.{owed}
 use Rattle.walk.proofs.AnyStep.{StepCase, ended-case, given-case, spent-case, step-case, unfit-case}
 use Rattle.walk.proofs.Invariant.{Fit, fit-at, fit-sound}
+use Rattle.walk.proofs.KeptRow.{Returns, none-of, refusal-of, ring-of, step-returns}
 use Rattle.walk.proofs.Needed.{needed-ended, needed-owed}
 use Rattle.walk.proofs.StepAgrees.{ended-stands, fit-placed, step-agrees}
-use Rattle.walk.specs.Claims.{AnsweredExactly, EndedExactly, NeededOwed, RefusedSteps, SpentExactly, StepAsBook, TrialDue, UnfitExactly}
+use Rattle.walk.proofs.StepLists.{step-sizes}
+use Rattle.walk.specs.Claims.{AnsweredExactly, EndedExactly, NeededOwed, RefusedSteps, RefusedTells, SpentExactly, StandsAfter, StandsBy, StepAsBook, TrialDue, UnfitExactly}
 use Rattle.walk.specs.InnerCourse.{GoodAt}
 use Rattle.walk.specs.Fit.{fit}
 use Rattle.walk.specs.Moves.{moveAt, rules, trial}
@@ -18,6 +21,7 @@ use Rattle.walk.specs.ToCome.{stands}
 use Rattle.walk.specs.declared.Standing.the-variants.{Ended}
 use Rattle.walk.specs.declared.Stepped.{Stepped}
 use Rattle.walk.specs.declared.Walk.{Walk}
+use Rattle.words.proofs.Zeros.{zero-at}
 
 pub refused-steps : RefusedSteps
 refused-steps w a long = go (step-case rules w a long)
@@ -28,6 +32,24 @@ refused-steps w a long = go (step-case rules w a long)
     go (ended-case k f e same t) h = inl (inr k, same, t)
     go (spent-case k u l t v d) h = inr (k, t)
     go (given-case k u l t) h = absurd (omega arith)
+
+pub refused-tells : RefusedTells
+refused-tells w a = go (step-returns rules w a)
+  where
+    go : {r : Stepped} → Returns w r → let s = stepNumbers r in (s .place ≡ 0) × (0 < s .number → (s .row ≡ []) × (s .leaves ≡ 0))
+    go (ring-of row t) = (refl, λ h. absurd (omega arith))
+    go (none-of k t) = (refl, λ h. absurd (omega arith))
+    go (refusal-of x p row at t) = (p, λ h. (refl, refl))
+
+pub stands-after : StandsAfter
+stands-after w a =
+    let s = step-sizes rules w (step-returns rules w a) in
+    (go (step-returns rules w a), s .0, s .1, s .2)
+  where
+    go : {r : Stepped} → Returns w r → StandsBy (r .answer) (r .walk)
+    go (ring-of row t) = refl
+    go (none-of k t) = (refl, zero-at k)
+    go (refusal-of x p row at t) = tt
 
 pub unfit-exactly : UnfitExactly
 unfit-exactly w a long = go (step-case rules w a long)

@@ -32,11 +32,11 @@ module _ (R : Rules) where
   placed-told w [] = refl
   placed-told w (x ∷ a) = ap (λ (l : List Told). toldBy (stepDue R w x) ∷ l) (placed-told (stepOf R w x .walk) a)
 
-  -- n and d stay
-  step-sizes : (w : Walk) {r : Stepped} → Returns w r → (r .walk .n ≡ w .n) × (r .walk .d ≡ w .d)
-  step-sizes w (ring-of row at t) = (refl, refl)
-  step-sizes w (none-of row t) = (refl, refl)
-  step-sizes w (refusal-of r row at t) = (refl, refl)
+  -- n, d and kind stay
+  pub step-sizes : (w : Walk) {r : Stepped} → Returns w r → (r .walk .n ≡ w .n) × (r .walk .d ≡ w .d) × (r .walk .kind ≡ w .kind)
+  step-sizes w (ring-of row t) = (refl, refl, refl)
+  step-sizes w (none-of k t) = (refl, refl, refl)
+  step-sizes w (refusal-of r p row at t) = (refl, refl, refl)
 
   pub handed-sizes : (w : Walk) (a : List ℕ) → (handed R w a .n ≡ w .n) × (handed R w a .d ≡ w .d)
   unfolding handed

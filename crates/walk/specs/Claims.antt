@@ -1,16 +1,17 @@
 -- What document 01 claims of a walk, each claim as a statement of its own.
 use mathlib.Core.Bool.{false, true, _&&_}
-use mathlib.Core.List.{List, _++_, _∷_}
+use mathlib.Core.List.{List, [], _++_, _∷_}
 use mathlib.Core.Logic.{_↔_, _⊎_}
 use mathlib.Core.Path.{_≡_}
 use Prim.Native.Nat.{ℕ, _*_, _+_, _-_, _<_, _^_, _≤_}
-use lib.ListN.{length}
+use lib.ListN.{getD, length}
 use Rattle.density.specs.Choose.{choose}
 use Rattle.density.specs.Lengths.{HowMany, atMost, drawerLength, exactly}
 use Rattle.density.specs.Necklaces.{necklaces, ofKind, wanted}
 use Rattle.density.specs.Ranks.{rank}
 use Rattle.refusal.specs.Conditions.{FirstOf}
-use Rattle.refusal.specs.Verdicts.{accepted, mostStations}
+use Rattle.refusal.specs.Verdicts.{Verdict, accepted, mostStations}
+use Rattle.refusal.specs.declared.Refusal.{Refusal}
 use Rattle.walk.specs.Fit.{FitRecord, fit}
 use Rattle.listing.specs.Listing.{Listing, Told, book, listingAnswers, listingStep, none, refused, ring, says}
 use Rattle.listing.specs.Places.{Placed, leaving, placesFrom, ringPlaces}
@@ -21,7 +22,7 @@ use Rattle.walk.specs.ToCome.{stands}
 use Rattle.listing.specs.Totals.{AtMost, SaysNone, Starts, listingLeft, named, owed, totals, trialsTold}
 use Rattle.walk.specs.declared.Answer.{Answer}
 use Rattle.walk.specs.declared.Answer.the-variants.{None, Refused, Ring}
-use Rattle.walk.specs.declared.Standing.the-variants.{Ended}
+use Rattle.walk.specs.declared.Standing.the-variants.{Ended, Given, Limit}
 use Rattle.walk.specs.declared.Stepped.{Stepped}
 use Rattle.walk.specs.declared.Walk.{Walk}
 use Rattle.words.specs.Difference.{firstDifference}
@@ -38,6 +39,21 @@ OpenRefusals = (n d kind : ℕ) (limit : List ℕ) → FirstOf (openConditions n
 -- "Every opening that meets no condition for the input is accepted", and no other.
 abbrev pub OpenAccepts : Type 0
 OpenAccepts = (n d kind : ℕ) (limit : List ℕ) → (openVerdict n d kind limit ≡ accepted) ↔ NoCondition n d kind limit
+
+-- "The Ended walk of (1, 0), kind 1", both its rows zeros
+pub record RefusedWalk (w : Walk) : Type 0 where
+  pub n : w .n ≡ 1
+  pub d : w .d ≡ 0
+  pub kind : w .kind ≡ 1
+  pub at : w .at ≡ Ended
+  pub row : w .row ≡ zeros mostStations
+  pub kept : w .kept ≡ zeros mostStations
+
+-- "A refused opening hands back the Ended walk of (1, 0), kind 1."
+abbrev pub RefusedOpening : Type 0
+RefusedOpening =
+    (n d kind : ℕ) (limit : List ℕ) (r : Refusal) → openVerdict n d kind limit ≡ Verdict.refused r
+    → RefusedWalk (openWalk (openVerdict n d kind limit) rules n d kind limit)
 
 -- ---- a step of any record
 
@@ -91,6 +107,22 @@ KeptBy (Refused x) w r = (r .place ≡ 0) × (r .walk .kept ≡ w .kept)
 abbrev pub KeptStep : Type 0
 KeptStep = (w : Walk) (a : ℕ) → let r = stepOf rules w a in KeptBy (r .answer) w r
 
+-- A refusal of a step names no place, and no row and no place of a ring stand beside it.
+abbrev pub RefusedTells : Type 0
+RefusedTells = (w : Walk) (a : ℕ) → let s = stepDue rules w a in (s .place ≡ 0) × (0 < s .number → (s .row ≡ []) × (s .leaves ≡ 0))
+
+-- "Otherwise the row is the answer and the walk stands at Given." "None: .. the row becomes zeros, the walk is Ended."
+abbrev pub StandsBy : Answer → Walk → Type 0
+StandsBy Ring w = w .at ≡ Given
+StandsBy None w = (w .at ≡ Ended) × ((i : ℕ) → getD (w .row) i 0 ≡ 0)
+StandsBy (Refused x) w = Unit
+
+-- where a step leaves the walk; n, d and kind stay
+abbrev pub StandsAfter : Type 0
+StandsAfter =
+    (w : Walk) (a : ℕ) → let r = stepOf rules w a in
+    StandsBy (r .answer) (r .walk) × (r .walk .n ≡ w .n) × (r .walk .d ≡ w .d) × (r .walk .kind ≡ w .kind)
+
 -- A step of a fit record is the book's step on what the record stands for, and the record that it hands back is fit.
 abbrev pub StepAsBook : Type 0
 StepAsBook =
@@ -114,6 +146,12 @@ pub record Opening : Type 0 where
 -- "the walk that the opening returned"
 abbrev pub opened : Opening → Walk
 opened o = openWalk (openVerdict (o .n) (o .d) (o .kind) (o .limit)) rules (o .n) (o .d) (o .kind) (o .limit)
+
+-- it stands at the limit, with zeros behind it: "Opening sets [the kept row] to the limit"
+abbrev pub OpenedWalk : Type 0
+OpenedWalk =
+    (o : Opening) → let w = opened o in let row = o .limit ++ zeros (mostStations - o .n) in
+    (w .n ≡ o .n) × (w .d ≡ o .d) × (w .kind ≡ o .kind) × (w .row ≡ row) × (w .at ≡ Limit) × (w .kept ≡ row)
 
 -- the drawer's book for it
 abbrev pub bookOf : Opening → Listing
@@ -172,6 +210,10 @@ NamedFalling = (o : Opening) (steps : List ℕ) → Falling (given o steps)
 -- a list of steps that reaches none has named each ring
 abbrev pub NamedAll : Type 0
 NamedAll = (o : Opening) (steps : List ℕ) → SaysNone (answers o steps) → given o steps ≡ wantedOf o
+
+-- every opening has such a list
+abbrev pub ReachesNone : Type 0
+ReachesNone = (o : Opening) → (steps : List ℕ) × SaysNone (answers o steps)
 
 -- "A walk from any limit must yield at most that many": the ways to choose d stations of n, whatever the kind and the allowances
 abbrev pub Ceiling : Type 0

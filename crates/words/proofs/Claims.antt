@@ -1,29 +1,33 @@
 -- The claims on rows hold.
-use mathlib.Core.Bool.{Bool, false, true}
+use mathlib.Core.Bool.{Bool, and-eq-true-iff, false, true}
 use mathlib.Core.List.{List, [], reverse-reverse, _∷_}
-use mathlib.Core.Path.{refl, _≡_}
+use mathlib.Core.Path.{refl, sym, _∙_, _≡_}
 use Prim.Native.Nat.{suc, zero, ℕ, _<_, _≤_}
 use native.Mathlib.Omega.{arith}
 use lib.Dec.{eqb, leb}
 use lib.ListN.{length}
+use borrow.Author.Tests.{eq-eqb, eqb-true}
 use Rattle.words.proofs.Below.{≺-irrefl}
 use Rattle.words.proofs.Bounded.{allBelow→, →allBelow}
 use Rattle.words.proofs.FirstPlaces.{first-tells}
 use Rattle.words.proofs.LeastRotation.{least-index, least-necklace, least-same, same-least}
 use Rattle.words.proofs.OrderTests.{→le}
-use Rattle.words.proofs.Periods.{period-of}
+use Rattle.words.proofs.Periods.{lyndon-test, period-of}
 use Rattle.words.proofs.Reversal.{oneRing→, rotation-reverse, →oneRing}
-use Rattle.words.proofs.Rotations.{→isNecklace}
+use Rattle.words.proofs.Rotations.{rotation-seam, →isNecklace}
 use Rattle.words.proofs.TurnedKey.{key-low, key-necklace, key-one-ring, key-ring, ring-key}
 use Rattle.words.proofs.Wrong.{other-decided, wrong-or-right}
-use Rattle.words.specs.Claims.{FirstOther, KeyShelved, LeastTurn, LeastTurned, OneKey, OneRingExactly, OneTurnedKey, PlaceOfFirst, ReversedTwice, Shelved, SmallestPeriod, SmallestTurn, TurnedShelved, TurnsReversed, WithoutSymmetry}
+use Rattle.words.specs.Claims.{FirstOther, KeyShelved, LeastTurn, LeastTurned, OneKey, OneRingExactly, OneTurnedKey, PlaceOfFirst, ReversedTwice, Shelved, SmallestPeriod, SmallestTurn, SymmetryByPeriod, TurnReads, TurnedShelved, TurnsReversed, WithoutSymmetry}
 use Rattle.words.specs.Order.{le, lt}
 use Rattle.words.specs.Reversal.{turnedKey}
-use Rattle.words.specs.Rotation.{isLyndon, isNecklace, leastIndex, leastRotation, rotation}
+use Rattle.words.specs.Rotation.{isLyndon, isNecklace, leastIndex, leastRotation, period, rotation}
 use Rattle.words.specs.Symbols.{firstWrong}
 use Rattle.words.specs.Tests.{allBelow}
 
 -- ---- turns
+
+pub turn-reads : TurnReads
+turn-reads = rotation-seam
 
 pub shelved : Shelved
 unfolding isNecklace
@@ -43,6 +47,14 @@ without-symmetry (x ∷ w) h = (turns, λ f. →allBelow (length w) test (λ j l
 
 pub smallest-period : SmallestPeriod
 smallest-period w h = let p = period-of w h in (p .low, p .high, p .back, p .before)
+
+pub symmetry-by-period : SymmetryByPeriod
+symmetry-by-period w h = (
+  λ e.
+      let b = and-eq-true-iff (isNecklace w) (eqb (period w) (length w)) .0 (sym (lyndon-test w h) ∙ e) in
+      (b .0, eqb-true (period w) (length w) (b .1)),
+  λ b. lyndon-test w h ∙ and-eq-true-iff (isNecklace w) (eqb (period w) (length w)) .1 (b .0, eq-eqb (period w) (length w) (b .1)),
+)
 
 pub least-turn : LeastTurn
 unfolding leastRotation

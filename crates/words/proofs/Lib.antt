@@ -52,4 +52,5 @@ pub mod LeadingZeros
 -- the period of a necklace in one pass
 pub mod OnePass
 -- what is claimed in specs/
+pub mod OrderClaims
 pub mod Claims

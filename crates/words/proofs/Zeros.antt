@@ -33,3 +33,9 @@ pub drop-zeros : (k n : ℕ) → drop k (zeros n) ≡ zeros (n - k)
 drop-zeros zero n = ap zeros (sym (sub-zero n))
 drop-zeros (suc k) zero = let e : 0 - suc k ≡ 0 = omega arith in rw e
 drop-zeros (suc k) (suc n) = let e : suc n - suc k ≡ n - k = omega arith in rw e (drop-zeros k n)
+
+-- each of them, and what stands behind them
+pub zero-at : (n m : ℕ) → getD (zeros n) m 0 ≡ 0
+zero-at zero m = refl
+zero-at (suc n) zero = refl
+zero-at (suc n) (suc m) = zero-at n m

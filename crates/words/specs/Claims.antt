@@ -1,18 +1,52 @@
 -- What document 01 claims of rows, over any alphabet.
 use mathlib.Core.Bool.{true}
-use mathlib.Core.List.{List, reverse}
+use mathlib.Core.List.{List, reverse, _++_, _∷_}
 use mathlib.Core.Logic.{_↔_, _⊎_}
 use mathlib.Core.Path.{_≡_}
 use Prim.Native.Nat.{ℕ, suc, _+_, _-_, _*_, _/_, _%_, _≤_, _<_}
 use lib.ListN.{length, getD, take}
 use Rattle.words.specs.Difference.{firstDifference}
-use Rattle.words.specs.Order.{le, lt}
+use Rattle.words.specs.Order.{cmp, le, lt, orderOf, same}
 use Rattle.words.specs.Pairs.{pairs, shorterLength}
 use Rattle.words.specs.Reversal.{SameRing, oneRing, turnedKey}
 use Rattle.words.specs.Rotation.{IsRotation, isLyndon, isNecklace, leastIndex, leastRotation, period, rotation}
 use Rattle.words.specs.Symbols.{Within, firstWrong}
+use Rattle.words.specs.declared.Order.the-variants.{Equal, Higher, Lower}
+
+-- ---- the order of rows
+
+-- behind symbols that both begin with, a has the lower one
+pub record LowerSymbol (a b : List ℕ) : Type 0 where
+  pub front : List ℕ
+  pub x : ℕ
+  pub y : ℕ
+  pub xs : List ℕ
+  pub ys : List ℕ
+  pub of-a : a ≡ front ++ (x ∷ xs)
+  pub of-b : b ≡ front ++ (y ∷ ys)
+  pub lower : x < y
+
+-- "Dictionary order; a proper beginning of a row is the lower of the two"
+abbrev pub LiesBelow : List ℕ → List ℕ → Type 0
+LiesBelow a b = ((y : ℕ) × (ys : List ℕ) × (b ≡ a ++ (y ∷ ys))) ⊎ LowerSymbol a b
+
+-- the three answers of the comparison
+abbrev pub DictionaryOrder : Type 0
+DictionaryOrder =
+    (a b : List ℕ) → let order = orderOf (cmp a b) in
+    ((order ≡ Lower) ↔ LiesBelow a b) × ((order ≡ Equal) ↔ (a ≡ b)) × ((order ≡ Higher) ↔ LiesBelow b a)
+
+-- below, at or below, the same: the tests that other definitions use
+abbrev pub OrderTests : Type 0
+OrderTests =
+    (a b : List ℕ)
+    → ((lt a b ≡ true) ↔ LiesBelow a b) × ((le a b ≡ true) ↔ (LiesBelow a b ⊎ (a ≡ b))) × ((same a b ≡ true) ↔ (a ≡ b))
 
 -- ---- turns
+
+-- "Turn j reads from place j+1 to the end, then places 1 to j."
+abbrev pub TurnReads : Type 0
+TurnReads = (u v : List ℕ) → rotation (length u) (u ++ v) ≡ v ++ u
 
 -- "Shelved: at or below all its turns"
 abbrev pub Shelved : Type 0
@@ -27,6 +61,10 @@ abbrev pub SmallestPeriod : Type 0
 SmallestPeriod =
     (w : List ℕ) → 0 < length w
     → (1 ≤ period w) × (period w ≤ length w) × (rotation (period w) w ≡ w) × ((p : ℕ) → 1 ≤ p → p < period w → rotation p w ≡ w → ⊥)
+
+-- without symmetry is shelved with period n
+abbrev pub SymmetryByPeriod : Type 0
+SymmetryByPeriod = (w : List ℕ) → 0 < length w → (isLyndon w ≡ true) ↔ ((isNecklace w ≡ true) × (period w ≡ length w))
 
 -- "Key of a row: writes the least turn"
 abbrev pub LeastTurn : Type 0

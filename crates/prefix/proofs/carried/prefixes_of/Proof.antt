@@ -3,7 +3,7 @@
 use mathlib.Core.List.{List, [], _++_, _∷_}
 use mathlib.Core.Logic.{inl, inr, _⊎_, ⊎-elim}
 use mathlib.Core.Path.{ap, refl, subst, sym, _∙_, _≡_}
-use Prim.Native.Nat.{suc, zero, ℕ, _+_, _-_, _<_, _≤_}
+use Prim.Native.Nat.{suc, ℕ, _+_, _-_, _<_, _≤_}
 use native.Mathlib.Numerals.{add-one}
 use native.Mathlib.Omega.{arith}
 use lib.ListN.{getD, length, length-set, set, take}
@@ -13,6 +13,7 @@ use Rattle.prefix.specs.InnerCarried.{KnowsPrefixes}
 use Rattle.words.proofs.Below.{le-or}
 use Rattle.words.proofs.ScanMore.{barred-on, more-higher, more-lower, more-same, scan-one}
 use Rattle.words.proofs.ScanSteps.{next-at}
+use Rattle.words.proofs.Zeros.{zero-at}
 use Rattle.words.specs.InnerScan.{coded, next, scan}
 use Rattle.words.specs.Symbols.{zeros}
 use Rattle.refusal.specs.Verdicts.{mostStations}
@@ -31,11 +32,6 @@ record Inv (a found : List ℕ) (i j p : ℕ) : Type 0 where
 first-scan : (a : List ℕ) → 1 ≤ length a → coded 1 ≡ scan (take 1 a)
 first-scan [] h = absurd (omega arith)
 first-scan (b ∷ a) h = sym (scan-one b)
-
-zero-at : (n m : ℕ) → getD (zeros n) m 0 ≡ 0
-zero-at zero m = refl
-zero-at (suc n) zero = refl
-zero-at (suc n) (suc m) = zero-at n m
 
 inv-first : (a : List ℕ) → Inv a (zeros mostStations) 1 0 1
 inv-first a = record {
