@@ -1,6 +1,6 @@
 -- A run of bytes, and a word at a place, a byte at a time.
 use mathlib.Core.Bool.{Bool, cond, false, false≢true, true, _&&_}
-use mathlib.Core.List.{List, [], _∷_}
+use mathlib.Core.List.{List, [], _++_, _∷_}
 use mathlib.Core.Logic.{⊎-elim}
 use mathlib.Core.Path.{ap, refl, sym, _∙_, _≡_}
 use Prim.Native.Nat.{suc, ℕ, _+_, _<_, _≤_}
@@ -10,6 +10,7 @@ use lib.Dec.{eqb}
 use lib.ListN.{drop, drop-of-length-le, getD, length, length-drop, take}
 use lib.Seq.{drop-cons}
 use borrow.Author.Tests.{eq-eqb, ne-eqb}
+use Rattle.text.specs.Ascii.{Every}
 use Rattle.text.specs.Parts.{belongs, run}
 use Rattle.text.specs.declared.Bytes.{Bytes}
 use Rattle.words.proofs.Below.{le-or}
@@ -27,6 +28,36 @@ module _ (sort : Bytes) (s : List ℕ) (i : ℕ) where
   pub run-on : i < length s → belongs sort (getD s i 0) ≡ true → run sort (drop i s) ≡ getD s i 0 ∷ run sort (drop (i + 1) s)
   unfolding run
   run-on h e = rw (drop-cons s i 0 h, e, add-one)
+
+-- no byte of the sort stands at the front
+abbrev pub Stops : Bytes → List ℕ → Type 0
+Stops sort [] = Unit {0}
+Stops sort (b ∷ s) = belongs sort b ≡ false
+
+-- a text is bytes of the sort, and a rest that begins with none
+pub record Split (sort : Bytes) (s front : List ℕ) : Type 0 where
+  pub rest : List ℕ
+  pub whole : s ≡ front ++ rest
+  pub every : Every (λ b. belongs sort b ≡ true) front
+  pub stops : Stops sort rest
+
+pub run-split : (sort : Bytes) (s : List ℕ) → Split sort s (run sort s)
+unfolding run
+run-split sort [] = record { rest = []; whole = refl; every = tt; stops = tt }
+run-split sort (b ∷ s) = go (belongs sort b) refl (run-split sort s)
+  where
+    go : (t : Bool) → belongs sort b ≡ t → Split sort s (run sort s) → Split sort (b ∷ s) (cond t (b ∷ run sort s) [])
+    go true e r = record { rest = r .rest; whole = ap (λ l. b ∷ l) (r .whole); every = (e, r .every); stops = r .stops }
+    go false e r = record { rest = b ∷ s; whole = refl; every = tt; stops = e }
+
+run-front : (sort : Bytes) (front rest : List ℕ) → Every (λ b. belongs sort b ≡ true) front → Stops sort rest → run sort (front ++ rest) ≡ front
+unfolding run
+run-front sort [] [] e h = refl
+run-front sort [] (b ∷ rest) e h = rw h
+run-front sort (b ∷ front) rest e h = rw (e .0, run-front sort front rest (e .1) h)
+
+pub split-run : {sort : Bytes} {s front : List ℕ} → Split sort s front → run sort s ≡ front
+split-run {sort} {s} {front} r = rw (r .whole) (run-front sort front (r .rest) (r .every) (r .stops))
 
 -- a run is what the text begins with
 pub run-take : (sort : Bytes) (s : List ℕ) → run sort s ≡ take (length (run sort s)) s
