@@ -2,5 +2,6 @@
 pub mod Filling
 -- how many line feeds a line has
 pub mod LineFeeds
--- document 01's example
+-- document 01's example, and what is claimed in specs/
 pub mod Examples
+pub mod Claims

@@ -1,2 +1,3 @@
 -- The drawer program's lines.
 pub mod Lines
+pub mod Claims

@@ -1,4 +1,4 @@
--- The claims on pieces hold.
+-- The claims on the text and on pieces hold.
 use mathlib.Core.Bool.{true}
 use mathlib.Core.List.{List, [], append-assoc, append-nil, _++_, _∷_}
 use mathlib.Core.Path.{ap, refl, sym, _∙_, _≡_}
@@ -6,11 +6,21 @@ use Prim.Native.Nat.{ℕ}
 use native.Mathlib.Omega.{arith}
 use lib.ListN.{length, length-append, take}
 use lib.Seq.{length-take-le}
-use Rattle.printing.specs.Claims.{DoneExactly, HandedPrinted, LessLeft}
+use Rattle.drawer_lines.specs.Lines.{refusalText}
+use Rattle.printing.specs.Claims.{DoneExactly, HandedPrinted, LessLeft, PrintedBook, PrintedRefusal}
 use Rattle.printing.specs.Left.{left}
 use Rattle.printing.specs.Pieces.{HandedOut, nothing, piece}
 use Rattle.printing.specs.Text.{printed}
 use Rattle.printing.specs.declared.Printing.{Printing}
+use Rattle.text.specs.Ascii.{ascii}
+
+pub printed-book : PrintedBook
+unfolding printed ascii
+printed-book input a e f = rw (e, f)
+
+pub printed-refusal : PrintedRefusal
+unfolding printed ascii refusalText
+printed-refusal input r = (λ e. rw e, λ a e f. rw (e, f))
 
 -- pieces take from what is left, and leave the rest
 handed-left : {s t : Printing} {bytes : List ℕ} → HandedOut s bytes t → bytes ++ left t ≡ left s

@@ -1,4 +1,4 @@
--- What is claimed of the program's text, however it is cut into pieces.
+-- What is claimed of the program's text, and of its pieces, however it is cut.
 use mathlib.Core.Bool.{false, true}
 use mathlib.Core.List.{List, _++_}
 use mathlib.Core.Logic.{_↔_}
@@ -8,15 +8,38 @@ use lib.ListN.{length, take}
 use Rattle.density.specs.Lengths.{HowMany, atMost, drawerLength, exactly}
 use Rattle.drawer_input.specs.Input.{Asked, readDrawer}
 use Rattle.drawer_lines.specs.Lines.{longestLine}
+use Rattle.listing.specs.Listing.{book}
 use Rattle.printing.specs.Left.{left}
 use Rattle.printing.specs.Pieces.{Fills, HandedOut}
-use Rattle.printing.specs.Text.{printed}
+use Rattle.printing.specs.Text.{linesText, printed}
 use Rattle.printing.specs.declared.Filled.{Filled}
 use Rattle.printing.specs.declared.Printing.{Printing}
-use Rattle.refusal.specs.Outcomes.{given}
-use Rattle.refusal.specs.Verdicts.{accepted}
+use Rattle.refusal.specs.Outcomes.{Outcome, given}
+use Rattle.refusal.specs.Refusals.{numberOf, placeOf}
+use Rattle.refusal.specs.Verdicts.{Verdict, accepted}
+use Rattle.refusal.specs.declared.Refusal.{Refusal}
+use Rattle.text.specs.Ascii.{ascii}
+use Rattle.text.specs.Decimals.{field}
 use Rattle.text.specs.Parts.{lineFeeds}
 use Rattle.walk.specs.Opening.{openVerdict}
+
+-- ---- the text
+
+-- "It prints names, then values": those of the drawer's book, of the kind and from the limit that were asked.
+abbrev pub PrintedBook : Type 0
+PrintedBook =
+    (input : List ℕ) (a : Asked) → readDrawer input ≡ given a → openVerdict (a .stations) (a .holes) (a .kind) (a .limit) ≡ accepted
+    → printed input ≡ ascii "number row period trials\n" ++ linesText 0 (book (a .stations) (a .holes) (a .kind) (a .limit))
+
+-- "A refusal prints the line `refused place`, then a line with the two numbers, and nothing else", for the text or for the opening.
+abbrev pub PrintedRefusal : Type 0
+PrintedRefusal =
+    (input : List ℕ) (r : Refusal) → let text = ascii "refused place\n" ++ (field (numberOf r) 32 ++ field (placeOf r) 10) in
+    (readDrawer input ≡ Outcome.refused r → printed input ≡ text)
+    × ((a : Asked) → readDrawer input ≡ given a → openVerdict (a .stations) (a .holes) (a .kind) (a .limit) ≡ Verdict.refused r
+    → printed input ≡ text)
+
+-- ---- its pieces
 
 -- from the start of an input's text on: what was handed out, and then what is left, is the printed text
 abbrev pub HandedPrinted : Type 0
