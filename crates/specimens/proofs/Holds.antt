@@ -11,7 +11,8 @@ use Rattle.density.specs.Ranks.{necklaceAt, rank}
 use Rattle.density.specs.Rows.{isPadded}
 use Rattle.pitches.specs.Pitches.{pitchesFrom, pitchesOfRow}
 use Rattle.refusal.specs.Verdicts.{areStations}
-use Rattle.specimens.specs.Starred.{Say, starred}
+use Rattle.specimens.specs.Starred.{Say, records, starred}
+use Rattle.text.specs.Ascii.{ascii}
 use Rattle.walk.specs.Fit.{fit, fitAt, fitSizes}
 use Rattle.walk.specs.Moves.{moveAt}
 use Rattle.walk.specs.Opening.{openVerdict}
@@ -25,5 +26,5 @@ use Rattle.words.specs.Symbols.{allUpTo, firstWhere, firstWrong}
 use Rattle.words.specs.Tests.{allBelow, any, firstFrom, isPrefix, keep, someBelow}
 
 pub starred-hold : Say starred
-unfolding starred openVerdict areStations firstWrong firstWhere firstDifference cmp le lt same pairs cut upToUnequal allBelow someBelow firstFrom keep any isPrefix rotation isNecklace period isLeastAt leastIndex leastRotation lowerOf turnedKey isBracelet rotatesTo oneRing density allRows isNecklaceOf necklaces headD largestNecklace begins pitchesFrom pitchesOfRow walkPlaced stepOf fit fitAt fitSizes isPadded allUpTo run enough moveAt isKind ofKind isLyndon rank necklacesOfKind necklaceAt drawerLength choose callAnswers putVerdict fetchVerdict under freshBinder
-starred-hold = ((refl, refl, refl), ((refl, refl, refl), (refl, (refl, (refl, (refl, (refl, ((refl, refl, refl), ((refl, refl, refl), ((refl, refl, refl), (refl, (refl, (refl, (refl, (refl, (refl, (refl, (refl, (refl, (refl, (refl, (refl, (refl, (refl, (refl, (refl, (refl, (refl, (refl, (refl, tt))))))))))))))))))))))))))))))
+unfolding starred records ascii openVerdict areStations firstWrong firstWhere firstDifference cmp le lt same pairs cut upToUnequal allBelow someBelow firstFrom keep any isPrefix rotation isNecklace period isLeastAt leastIndex leastRotation lowerOf turnedKey isBracelet rotatesTo oneRing density allRows isNecklaceOf necklaces headD largestNecklace begins pitchesFrom pitchesOfRow walkPlaced stepOf fit fitAt fitSizes isPadded allUpTo run enough moveAt isKind ofKind isLyndon rank necklacesOfKind necklaceAt drawerLength choose callAnswers putVerdict fetchVerdict under freshBinder
+starred-hold = ((refl, refl, refl), ((refl, refl, refl), (refl, (refl, (refl, (refl, (refl, ((refl, refl, refl), ((refl, refl, refl), ((refl, refl, refl), (refl, (refl, (refl, (refl, (refl, (refl, (refl, (refl, (refl, (refl, (refl, (refl, (refl, (refl, (refl, (refl, (refl, (refl, (refl, (refl, (refl, (refl, (refl, (refl, tt))))))))))))))))))))))))))))))))))
