@@ -1,1 +1,3 @@
+-- The starred specimens, and what the operations answer.
 pub mod Starred
+pub mod Answered

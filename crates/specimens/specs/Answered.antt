@@ -1,0 +1,147 @@
+-- What the operations answer in specimens of documents 01 and 02: each is an instance of the operation's promise, so that the verdict, the
+-- values and the telling of each case of an answer are held to the documents' numbers.
+use mathlib.Core.Bool.{false, true}
+use mathlib.Core.List.{List, [], _∷_}
+use mathlib.Core.Path.{_≡_}
+use Prim.Native.Nat.{ℕ}
+use Prim.Native.String.{String}
+use lib.ListN.{length}
+use Rattle.binder.specs.Names.{binderOutcome, fetchVerdict, freshBinder, putVerdict}
+use Rattle.binder.specs.declared.BinderAnswer.{BinderAnswer}
+use Rattle.bracelet.specs.Answers.{ringOutcome, ringVerdict, turnedOutcome}
+use Rattle.bracelet.specs.declared.RingAnswer.{RingAnswer}
+use Rattle.bracelet.specs.declared.TurnedAnswer.{TurnedAnswer}
+use Rattle.density.specs.Choose.{choose}
+use Rattle.density.specs.Drawers.{openVerdict}
+use Rattle.density.specs.Lengths.{drawerLength}
+use Rattle.density.specs.Necklaces.{begins}
+use Rattle.density.specs.Ranks.{rank}
+use Rattle.drawer_input.specs.Input.{readDrawer, requestFor, requestOutcome}
+use Rattle.drawer_input.specs.declared.Request.{Request}
+use Rattle.largest.specs.Top.{topOutcome, topVerdict}
+use Rattle.largest.specs.declared.Top.{Top}
+use Rattle.lengths.specs.Answers.{lengthOutcome}
+use Rattle.lengths.specs.declared.Length.{Length}
+use Rattle.necklace.specs.Class.{classGiven, classOutcome, classVerdict}
+use Rattle.necklace.specs.Key.{keyGiven, keyOutcome, keyVerdict}
+use Rattle.necklace.specs.declared.ClassAnswer.{ClassAnswer}
+use Rattle.necklace.specs.declared.KeyAnswer.{KeyAnswer}
+use Rattle.pascal.specs.Answers.{waysOutcome, waysVerdict}
+use Rattle.pascal.specs.declared.Answer.{Answer}
+use Rattle.pitches.specs.Answers.{listOutcome, listVerdict, rowOutcome, rowVerdict}
+use Rattle.pitches.specs.Pitches.{pitchesOfRow}
+use Rattle.pitches.specs.declared.ListAnswer.{ListAnswer}
+use Rattle.pitches.specs.declared.RowAnswer.{RowAnswer}
+use Rattle.prefix.specs.Question.{questionOutcome, questionVerdict}
+use Rattle.prefix.specs.declared.PrefixAnswer.{PrefixAnswer}
+use Rattle.ranking.specs.Answers.{rankOutcome, rankVerdict, unrankOutcome, unrankVerdict}
+use Rattle.ranking.specs.declared.Seat.{Seat}
+use Rattle.ranking.specs.declared.Seated.{Seated}
+use Rattle.refusal.specs.Outcomes.{decide}
+use Rattle.refusal.specs.declared.Refusal.the-variants as refusals
+use Rattle.specimens.specs.Starred.{row}
+use Rattle.text.specs.Ascii.{ascii}
+use Rattle.walk.specs.Moves.{rules}
+use Rattle.walk.specs.Opening.{openOutcome, refusedWalk}
+use Rattle.walk.specs.declared.OpenAnswer.{OpenAnswer}
+use Rattle.walk.specs.declared.Walk.{Walk}
+use Rattle.words.specs.Reversal.{oneRing}
+use Rattle.words.specs.Symbols.{ones, zeros}
+
+pub data Answered : Type 0 where
+  -- key of a row, and turned-over key, in a buffer of so many bytes
+  key : List ℕ → ℕ → KeyAnswer → Answered
+  turned : List ℕ → ℕ → TurnedAnswer → Answered
+  -- class of a row
+  class : List ℕ → ClassAnswer → Answered
+  -- two rows: one ring, turning over allowed
+  fits : List ℕ → List ℕ → RingAnswer → Answered
+  -- drawer (n, d): a prefix
+  prefix : ℕ → ℕ → List ℕ → PrefixAnswer → Answered
+  -- top ring of (n, d), in a buffer of so many bytes
+  top : ℕ → ℕ → ℕ → Top → Answered
+  -- a pitch list to its row of n symbols, and a row to its list
+  pitches : ℕ → List ℕ → ℕ → RowAnswer → Answered
+  list : List ℕ → ℕ → ListAnswer → Answered
+  -- the ways to choose bottom of top
+  ways : ℕ → ℕ → Answer → Answered
+  -- drawer (n, d), kind: the seat of a row, the ring at a seat, the length from a limit, and an opening
+  seat : ℕ → ℕ → ℕ → List ℕ → Seat → Answered
+  ringAt : ℕ → ℕ → ℕ → ℕ → ℕ → Seated → Answered
+  rings : ℕ → ℕ → ℕ → List ℕ → Length → Answered
+  opens : ℕ → ℕ → ℕ → List ℕ → OpenAnswer → Answered
+  -- a walk put under a name, and a fetch from a fresh binder
+  put : ℕ → Walk → BinderAnswer → Answered
+  fetch : ℕ → BinderAnswer → Answered
+  -- a text read, with a buffer of so many bytes for the limit
+  read : String → ℕ → Request → Answered
+
+-- the promise of the answer
+abbrev pub Keeps : Answered → Type 0
+Keeps (key w room a) = keyOutcome a ≡ decide (keyVerdict w room) (keyGiven w)
+Keeps (turned w room a) = turnedOutcome a ≡ decide (keyVerdict w room) tt
+Keeps (class w a) = classOutcome a ≡ decide (classVerdict w) (classGiven w)
+Keeps (fits v w a) = ringOutcome a ≡ decide (ringVerdict v w) (oneRing v w)
+Keeps (prefix n d p a) = questionOutcome a ≡ decide (questionVerdict n d p) (begins n d p)
+Keeps (top n d room a) = topOutcome a ≡ decide (topVerdict n d room) tt
+Keeps (pitches n l room a) = rowOutcome a ≡ decide (rowVerdict n l room) tt
+Keeps (list w room a) = listOutcome a ≡ decide (listVerdict w room) (length (pitchesOfRow w))
+Keeps (ways t b a) = waysOutcome a ≡ decide (waysVerdict t b) (choose t b)
+Keeps (seat n d kind w a) = rankOutcome a ≡ decide (rankVerdict n d kind w) (rank n d kind w)
+Keeps (ringAt n d kind s room a) = unrankOutcome a ≡ decide (unrankVerdict n d kind s room) tt
+Keeps (rings n d kind limit a) = lengthOutcome a ≡ decide (openVerdict n d kind limit) (drawerLength n d kind limit)
+Keeps (opens n d kind limit a) = openOutcome a ≡ decide (openVerdict n d kind limit) tt
+Keeps (put name w a) = binderOutcome a ≡ decide (putVerdict name w) tt
+Keeps (fetch name a) = binderOutcome a ≡ decide (fetchVerdict freshBinder name) tt
+Keeps (read text room a) = requestOutcome a ≡ requestFor (readDrawer (ascii text)) room
+
+-- that of each in a list
+abbrev pub Keep : List Answered → Type 0
+Keep [] = Unit
+Keep (a ∷ rest) = Keeps a × Keep rest
+
+unfoldable pub answers : List Answered
+answers =
+    key (row "011000") 6 (KeyAnswer.Found 3 6)
+    ∷ key (row "101010") 9 (KeyAnswer.Found 1 2)
+    ∷ key (row "0110") 3 (KeyAnswer.Refused refusals.Buffer)
+    ∷ turned (row "001101") 6 TurnedAnswer.Written
+    ∷ turned (2 ∷ []) 0 (TurnedAnswer.Refused (refusals.Symbol 1))
+    ∷ class (row "0101") (ClassAnswer.Of true false)
+    ∷ class (row "0011") (ClassAnswer.Of true true)
+    ∷ class (row "0110") (ClassAnswer.Of false false)
+    ∷ class [] (ClassAnswer.Refused refusals.Stations)
+    ∷ fits (row "001011") (row "101001") (RingAnswer.Answered true)
+    ∷ fits (row "001011") (row "000111") (RingAnswer.Answered false)
+    ∷ fits (row "01") (row "010") (RingAnswer.Refused refusals.Limit)
+    ∷ prefix 8 3 (row "0010") (PrefixAnswer.Answered true)
+    ∷ prefix 8 3 (row "010") (PrefixAnswer.Answered false)
+    ∷ prefix 2 1 (row "000") (PrefixAnswer.Refused refusals.Prefix)
+    ∷ top 64 3 64 Top.Written
+    ∷ top 0 0 64 (Top.Refused refusals.Stations)
+    ∷ top 65 3 65 (Top.Refused refusals.Stations)
+    ∷ top 4 5 4 (Top.Refused refusals.Holes)
+    ∷ pitches 8 (3 ∷ 3 ∷ 2 ∷ []) 8 RowAnswer.Written
+    ∷ pitches 8 (2 ∷ 2 ∷ 2 ∷ []) 8 (RowAnswer.Refused refusals.PitchSum)
+    ∷ pitches 8 (3 ∷ 0 ∷ 0 ∷ []) 8 (RowAnswer.Refused (refusals.ZeroPitch 2))
+    ∷ list (row "00100101") 3 (ListAnswer.Listed 3)
+    ∷ list (row "10") 2 (ListAnswer.Refused refusals.LastPlain)
+    ∷ ways 6 3 (Answer.Ways 20)
+    ∷ ways 65 3 (Answer.Refused refusals.Stations)
+    ∷ seat 6 3 1 (row "001101") (Seat.Number 3)
+    ∷ seat 6 3 3 (row "001101") (Seat.Refused refusals.Kind)
+    ∷ ringAt 6 3 1 4 6 Seated.Written
+    ∷ ringAt 6 3 1 5 6 (Seated.Refused refusals.Seat)
+    ∷ rings 6 3 1 (ones 6) (Length.Exactly 4)
+    ∷ rings 6 3 3 (ones 6) (Length.AtMost 20)
+    ∷ rings 1 0 3 (zeros 1) (Length.AtMost 1)
+    ∷ rings 6 3 4 (ones 6) (Length.Refused refusals.Kind)
+    ∷ opens 6 3 1 (ones 6) OpenAnswer.Open
+    ∷ opens 6 3 1 (ones 7) (OpenAnswer.Refused refusals.Limit)
+    ∷ put 7 (refusedWalk rules) BinderAnswer.Done
+    ∷ put 8 (refusedWalk rules) (BinderAnswer.Refused refusals.Name)
+    ∷ fetch 7 (BinderAnswer.Refused refusals.NothingPut)
+    ∷ fetch 8 (BinderAnswer.Refused refusals.Name)
+    ∷ read "stations holes kind limit\n6 3 1 111111\n" 6 (Request.Drawer 6 3 1 6)
+    ∷ read "stations holes kind limit\n6 3 1 111111\n" 5 (Request.Refused refusals.Buffer)
+    ∷ []
