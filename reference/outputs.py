@@ -860,8 +860,8 @@ def printing_test():
         show_tally(f"({n},{d}) kind {kind}", [values(n, d, kind, digits_of(n, MOST))], 4201)
 
 
-# ---- drawer
+# ---- drawer, and the runs of the same program on other inputs
 
 
-def drawer_program():
-    print(texts.drawer(texts.stored_input("drawer")), end="")
+def drawer_program(crate):
+    print(texts.drawer(texts.stored_input(crate)), end="")

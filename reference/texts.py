@@ -56,5 +56,9 @@ def drawer(text):
 
 
 def stored_input(crate):
-    with open(os.path.join(CRATES, crate, "stdin"), "rb") as file:
+    """What a program is run on; a crate without the file is run on an empty input."""
+    path = os.path.join(CRATES, crate, "stdin")
+    if not os.path.exists(path):
+        return b""
+    with open(path, "rb") as file:
         return file.read()

@@ -23,7 +23,7 @@ unfolding printed ascii refusalText
 printed-refusal input r = (λ e. rw e, λ a e f. rw (e, f))
 
 -- pieces take from what is left, and leave the rest
-handed-left : {s t : Printing} {bytes : List ℕ} → HandedOut s bytes t → bytes ++ left t ≡ left s
+pub handed-left : {s t : Printing} {bytes : List ℕ} → HandedOut s bytes t → bytes ++ left t ≡ left s
 handed-left nothing = refl
 handed-left (piece {bytes = bytes} {after = after} {f = f} h g) =
     append-assoc bytes (take (f .used) after) (left (f .state)) ∙ ap (λ x. bytes ++ x) (g .text) ∙ handed-left h

@@ -1,39 +1,46 @@
-// Prints the ways to choose, top rising, bottom rising within it.
+// Prints the ways to choose, top rising, bottom rising within it. It stops at once where output is not taken.
 use pascal::Answer;
 
-// A line, with nothing but the look-up to print from.
-fn print_line(table: &[u64; pascal::ENTRIES], top: usize, bottom: usize) {
-    io::print_decimal(1, top as u64);
-    io::write_all(1, b" ");
-    io::print_decimal(1, bottom as u64);
+// A number and what follows it; whether all of it was taken.
+fn print_field(n: u64, behind: &[u8]) -> bool {
+    io::print_decimal(1, n) && io::write_all(1, behind)
+}
+
+// A line, with nothing but the look-up to print from; whether all of it was taken.
+fn print_line(table: &[u64; pascal::ENTRIES], top: usize, bottom: usize) -> bool {
     let answer = pascal::ways_in(table, top, bottom);
     match answer {
         Answer::Ways(x) => {
-            io::write_all(1, b" ");
-            io::print_decimal(1, x);
-            io::write_all(1, b"\n");
+            print_field(top as u64, b" ")
+                && print_field(bottom as u64, b" ")
+                && print_field(x, b"\n")
         }
-        Answer::Refused(_) => {
-            io::write_all(1, b" refused\n");
-        }
+        Answer::Refused(_) => false,
     }
 }
 
-fn print_row(table: &[u64; pascal::ENTRIES], top: usize) {
+// The lines of a top; whether all of them were taken.
+fn print_row(table: &[u64; pascal::ENTRIES], top: usize) -> bool {
     let mut bottom: usize = 0;
     while bottom < top {
-        print_line(table, top, bottom);
+        if !print_line(table, top, bottom) {
+            return false;
+        }
         bottom += 1;
     }
-    print_line(table, top, top);
+    print_line(table, top, top)
 }
 
 fn main() {
-    io::write_all(1, b"top bottom ways\n");
+    if !io::write_all(1, b"top bottom ways\n") {
+        return;
+    }
     let table = pascal::triangle();
     let mut top: usize = 0;
     while top <= pascal::LAST_ROW {
-        print_row(&table, top);
+        if !print_row(&table, top) {
+            return;
+        }
         top += 1;
     }
 }

@@ -1,12 +1,12 @@
--- `drawer::start_read` meets its contract.
+-- `drawer_program::start_read` meets its contract.
 use mathlib.Core.Path.{ap, sym, _∙_}
 use lib.ListN.{length}
 use lib.Seq.{length-take-le}
 use borrow.Author.Needs.{needs}
 use Rattle.printing.proofs.Reading.{read-enough}
 use Rattle.printing.specs.Text.{printed}
-use Rattle.drawer.proofs.start_read.Statement.{statement}
-use Rattle.drawer.proofs.start_read.Tie as tie
+use Rattle.drawer_program.proofs.start_read.Statement.{statement}
+use Rattle.drawer_program.proofs.start_read.Tie as tie
 
 slice-aggregate-start : tie.Need-slice-aggregate-start
 slice-aggregate-start c = sym (length-take-le _ _ (c .before .before .pre .1))

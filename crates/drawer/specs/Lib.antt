@@ -1,2 +1,0 @@
--- What the program has read of its input.
-pub mod Read

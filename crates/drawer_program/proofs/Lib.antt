@@ -1,0 +1,2 @@
+-- what is claimed in specs/
+pub mod Claims
