@@ -13,7 +13,7 @@ use Rattle.bracelet.specs.declared.RingAnswer.the-variants.{Answered, Re
 use Rattle.bracelet.specs.declared.TurnedAnswer.{TurnedAnswer}
 use Rattle.bracelet.specs.declared.TurnedAnswer.the-variants.{Written}
 
--- The turned-over key "returns no number". It "is refused as the key is", by `keyVerdict` (necklace/specs/Key.antt).
+-- The turned-over key "returns no number". It is "refused as the key is", by `keyVerdict` (necklace/specs/Key.antt).
 abbrev pub turnedOutcome : TurnedAnswer → Outcome Unit
 turnedOutcome Written = given tt
 turnedOutcome (TurnedAnswer.Refused r) = refused r

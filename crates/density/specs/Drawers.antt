@@ -25,7 +25,7 @@ rowNeeds n row = need (eqb (length row) n) Limit (need (eqb (firstWrong 2 row) 0
 unfoldable pub drawerVerdict : ℕ → ℕ → ℕ → Verdict
 drawerVerdict n d kind = drawerNeeds n d (isKind kind) accepted
 
--- "Orders. Open: 1, 2, 5, 4, 3."
+-- "Orders. .. Open: 1, 2, 5, 4, 3."
 unfoldable pub openVerdict : ℕ → ℕ → ℕ → List ℕ → Verdict
 openVerdict n d kind limit = drawerNeeds n d (isKind kind) (rowNeeds n limit)
 

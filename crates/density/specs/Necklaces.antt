@@ -18,7 +18,7 @@ isNecklaceOf d w = eqb (density w) d && isNecklace w
 unfoldable pub necklaces : ℕ → ℕ → List (List ℕ)
 necklaces n d = keep (isNecklaceOf d) (allRows n)
 
--- "Kind 1 to 3."
+-- kinds 1 to 3
 unfoldable pub isKind : ℕ → Bool
 isKind kind = oneTo 3 kind
 

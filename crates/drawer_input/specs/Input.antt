@@ -1,4 +1,4 @@
--- The drawer program's input: "the names, then one line of values", or the first line that is faulty, missing or too many.
+-- The drawer program's input: the names, "then one line of values", or the first line that is faulty, missing or too many.
 use mathlib.Core.Bool.{cond, not, _&&_}
 use mathlib.Core.List.{List, [], _∷_, map}
 use Prim.Native.Nat.{ℕ, _+_}

@@ -9,7 +9,7 @@ use Rattle.refusal.specs.declared.Refusal.the-variants.{Buffer, Holes, Stations
 use Rattle.words.specs.Symbols.{ones, zeros}
 use Rattle.words.specs.Falling.{Highest}
 
--- "Orders. Top: 1, 2, 9. .. Each number is returned only under its condition."
+-- "Orders. .. Top: 1, 2, 9. .. Each number is returned only under its condition."
 abbrev pub TopRefusals : Type 0
 TopRefusals = (n d room : ℕ) → FirstOf (when (NoStations n) Stations (when (n < d) Holes (when (room < n) Buffer no-more))) (topVerdict n d room)
 

@@ -10,7 +10,7 @@ use Rattle.refusal.specs.Outcomes.{Outcome, given, refused}
 use Rattle.refusal.specs.Verdicts.{Verdict, accepted, areStations, need}
 use Rattle.refusal.specs.declared.Refusal.the-variants.{Buffer, Holes, Stations}
 
--- "Orders. Top: 1, 2, 9.", for a buffer of that many bytes
+-- "Orders. .. Top: 1, 2, 9.", for a buffer of that many bytes
 abbrev pub topVerdict : ℕ → ℕ → ℕ → Verdict
 topVerdict n d room = need (areStations n) Stations (need (leb d n) Holes (need (leb n room) Buffer accepted))
 

@@ -12,7 +12,7 @@ use Rattle.refusal.specs.declared.Refusal.the-variants.{Stations, Symbol}
 use Rattle.necklace.specs.declared.ClassAnswer.{ClassAnswer}
 use Rattle.necklace.specs.declared.ClassAnswer.the-variants.{Of, Refused}
 
--- "Orders. Class: 1, 3."
+-- "Orders. .. Class: 1, 3."
 unfoldable pub classVerdict : List ℕ → Verdict
 classVerdict row = need (areStations (length row)) Stations (need (eqb (firstWrong 2 row) 0) (Symbol (firstWrong 2 row)) accepted)
 

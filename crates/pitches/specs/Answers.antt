@@ -13,7 +13,7 @@ use Rattle.pitches.specs.Pitches.{addsUp, firstZero, hasPitchList, pitch
 
 -- ---- pitch list to row
 
--- "Orders. List to row: 1, 2, 11, 7, 9."
+-- list to row: 1, 2, 11, 7, 9
 unfoldable pub rowVerdict : ℕ → List ℕ → ℕ → Verdict
 rowVerdict n pitches room =
     need (areStations n) Stations

@@ -23,11 +23,11 @@ FirstZeroAt pitches place = FirstSo (λ p. p ≡ 0) pitches place
 abbrev pub PlaceOfZero : Type 0
 PlaceOfZero = (pitches : List ℕ) → (((k : ℕ) → k < length pitches → 0 < getD pitches k 0) × (firstZero pitches ≡ 0)) ⊎ FirstZeroAt pitches (firstZero pitches)
 
--- "7. a non-empty list that doesn't add up to the stations"
+-- 7: "a non-empty list that doesn't add up to the stations"
 abbrev pub WrongSum : ℕ → List ℕ → Type 0
 WrongSum n pitches = (0 < length pitches) × (sum pitches ≡ n → ⊥)
 
--- "Orders. List to row: 1, 2, 11, 7, 9."
+-- list to row: 1, 2, 11, 7, 9
 abbrev pub RowRefusals : Type 0
 RowRefusals =
     (n : ℕ) (pitches : List ℕ) (room : ℕ)
@@ -83,6 +83,6 @@ HasList w pitches = (rowVerdict (length w) pitches (length w) ≡ accepted) × (
 abbrev pub RowListRow : Type 0
 RowListRow = (w : List ℕ) (room : ℕ) → listVerdict w room ≡ accepted → HasList w (pitchesOfRow w)
 
--- "every row that has a pitch list" is given exactly that list
+-- every row that has a pitch list is given exactly that list
 abbrev pub ItsList : Type 0
 ItsList = (w pitches : List ℕ) → HasList w pitches → (listVerdict w (length pitches) ≡ accepted) × (pitchesOfRow w ≡ pitches)

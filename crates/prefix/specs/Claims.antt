@@ -13,7 +13,7 @@ use Rattle.refusal.specs.declared.Refusal.the-variants.{Holes, Prefix, Stations
 use Rattle.words.specs.Claims.{FirstOther}
 use Rattle.words.specs.Symbols.{firstWrong}
 
--- "Orders. Prefix: 1, 2, 6, 3. .. Each number is returned only under its condition."
+-- "Orders. .. Prefix: 1, 2, 6, 3. .. Each number is returned only under its condition."
 abbrev pub QuestionRefusals : Type 0
 QuestionRefusals =
     (n d : ℕ) (p : List ℕ)

@@ -11,7 +11,7 @@ use Rattle.refusal.specs.Verdicts.{Verdict, accepted, need, areStations}
 use Rattle.prefix.specs.declared.PrefixAnswer.{PrefixAnswer}
 use Rattle.prefix.specs.declared.PrefixAnswer.the-variants.{Answered, Refused}
 
--- "Orders. Prefix: 1, 2, 6, 3."
+-- "Orders. .. Prefix: 1, 2, 6, 3."
 unfoldable pub questionVerdict : ℕ → ℕ → List ℕ → Verdict
 questionVerdict n d p =
     need (areStations n) Stations (need (leb d n) Holes (need (leb (length p) n) Prefix (need (eqb (firstWrong 2 p) 0) (Symbol (firstWrong 2 p)) accepted)))

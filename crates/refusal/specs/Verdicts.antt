@@ -12,7 +12,7 @@ mostStations = 64
 abbrev pub oneTo : ℕ → ℕ → Bool
 oneTo most n = leb 1 n && leb n most
 
--- "Stations 1 to 64."
+-- stations "1 to 64"
 unfoldable pub areStations : ℕ → Bool
 areStations n = oneTo mostStations n
 

@@ -32,7 +32,7 @@ use Rattle.words.specs.Symbols.{zeros}
 
 -- ---- opening
 
--- "Orders. Open: 1, 2, 5, 4, 3. .. Each number is returned only under its condition."
+-- "Orders. .. Open: 1, 2, 5, 4, 3. .. Each number is returned only under its condition."
 abbrev pub OpenRefusals : Type 0
 OpenRefusals = (n d kind : ℕ) (limit : List ℕ) → FirstOf (openConditions n d kind limit) (openVerdict n d kind limit)
 

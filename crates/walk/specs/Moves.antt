@@ -74,7 +74,7 @@ abbrev pub upMove : Rules → Bool → ℕ → Walk → Move
 upMove R true i w = trial (upTried (begins (w .n) (w .d) (take i (w .row) ++ (1 ∷ []))) i w)
 upMove R false i w = foundMove (R .ofKind (w .kind) (rowOf w)) w
 
--- "Going on below: with d = 0, none; else the last symbol becomes 0 and the walk is at Down n."
+-- "Going on below .. with d = 0, none; else the last symbol becomes 0 and the walk is at Down n."
 abbrev pub goneBelow : ℕ → Walk → Walk
 goneBelow zero w = moved w (w .row) (Down 0)
 goneBelow (suc d) w = moved w (set (w .row) (w .n - 1) 0) (Down (w .n))

@@ -44,7 +44,7 @@ OrderTests =
 
 -- ---- turns
 
--- "Turn j reads from place j+1 to the end, then places 1 to j."
+-- Turn j "reads from place j+1 to the end, then places 1 to j".
 abbrev pub TurnReads : Type 0
 TurnReads = (u v : List ℕ) → rotation (length u) (u ++ v) ≡ v ++ u
 

@@ -5,7 +5,7 @@ use Prim.Native.Nat.{ℕ}
 use lib.Dec.{eqb}
 use Rattle.words.specs.Symbols.{later}
 
--- "Comparing two rows is to tell that place (0 if equal). Where one row begins the other, it is the place just after the shorter."
+-- "Comparing two rows is to tell that place (0 if equal) .. Where one row begins the other, it is the place just after the shorter."
 unfoldable pub firstDifference : List ℕ → List ℕ → ℕ
 firstDifference [] [] = 0
 firstDifference [] (y ∷ ys) = 1
