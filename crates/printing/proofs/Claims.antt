@@ -7,7 +7,7 @@ use native.Mathlib.Omega.{arith}
 use lib.ListN.{length, length-append, take}
 use lib.Seq.{length-take-le}
 use Rattle.drawer_lines.specs.Lines.{refusalText}
-use Rattle.printing.specs.Claims.{DoneExactly, HandedPrinted, LessLeft, PrintedBook, PrintedRefusal}
+use Rattle.printing.specs.Claims.{BehindStays, DoneExactly, HandedPrinted, LessLeft, PrintedBook, PrintedRefusal}
 use Rattle.printing.specs.Left.{left}
 use Rattle.printing.specs.Pieces.{HandedOut, nothing, piece}
 use Rattle.printing.specs.Text.{printed}
@@ -51,3 +51,6 @@ done-exactly input bytes before after s t f start out g = (done-all, all-done)
 pub less-left : LessLeft
 less-left before after s f g h d =
     omega (arith, g .full d, ap length (g .text), length-append (take (f .used) after) (left (f .state)), length-take-le (f .used) after (omega (arith, g .long, g .inside)))
+
+pub behind-stays : BehindStays
+behind-stays before after s f g = (g .inside, g .long, g .rest, g .short)

@@ -4,7 +4,7 @@ use mathlib.Core.List.{List, _++_}
 use mathlib.Core.Logic.{_↔_}
 use mathlib.Core.Path.{_≡_}
 use Prim.Native.Nat.{ℕ, _+_, _<_, _≤_}
-use lib.ListN.{length, take}
+use lib.ListN.{drop, length, take}
 use Rattle.density.specs.Lengths.{HowMany, atMost, drawerLength, exactly}
 use Rattle.drawer_input.specs.Input.{Asked, readDrawer}
 use Rattle.drawer_lines.specs.Lines.{longestLine}
@@ -56,6 +56,15 @@ abbrev pub LessLeft : Type 0
 LessLeft =
     (before after : List ℕ) (s : Printing) (f : Filled) → Fills s before after f → longestLine ≤ length before → f .done ≡ false
     → length (left (f .state)) < length (left s)
+
+-- the bytes behind what was written are as they were, and a buffer without room for the longest line gets nothing
+abbrev pub BehindStays : Type 0
+BehindStays =
+    (before after : List ℕ) (s : Printing) (f : Filled) → Fills s before after f
+    → (f .used ≤ length before)
+    × (length after ≡ length before)
+    × (drop (f .used) after ≡ drop (f .used) before)
+    × (length before < longestLine → f .used ≡ 0)
 
 -- ---- how many lines a printed drawer has
 
