@@ -1,22 +1,28 @@
 -- A line of values: its numbers, the limit, and what stands behind the limit.
-use mathlib.Core.Bool.{Bool, and-eq-true-iff, cond, false, not, true, _&&_}
-use mathlib.Core.List.{List, [], _∷_}
-use mathlib.Core.Path.{refl, _≡_}
-use Prim.Native.Nat.{ℕ, _+_, _<_}
+use mathlib.Core.Bool.{Bool, cond, false, not, true, _&&_}
+use mathlib.Core.List.{List, [], _++_, _∷_}
+use mathlib.Core.Path.{ap, refl, sym, _∙_, _≡_}
+use Prim.Native.Nat.{ℕ, _+_, _<_, _≤_}
 use native.Mathlib.Omega.{arith}
 use lib.Dec.{eqb}
-use lib.ListN.{drop, length}
-use borrow.Author.Tests.{ne-eqb}
-use Rattle.text.proofs.Runs.{prefix-inside}
+use lib.ListN.{drop, length, length-append, length-drop, take}
+use lib.Seq.{take-append-seam}
+use borrow.Author.Tests.{eqb-false, ne-eqb, not-true}
+use Rattle.text.proofs.Claims.{unspaced-bytes}
+use Rattle.text.proofs.Every.{every-map}
+use Rattle.text.proofs.Places.{SpacedAt, drop-on, spaced-found, spaced-read}
+use Rattle.text.proofs.Runs.{Split, run-split, split-run}
 use Rattle.drawer_input.specs.Input.{behind, limitAt, valuesAt}
-use Rattle.text.specs.Parts.{feed, run, spacedAt}
+use Rattle.text.specs.Ascii.{Every, IsUnspaced}
+use Rattle.text.specs.Parts.{belongs, feed, run, spacedAt}
 use Rattle.text.specs.declared.Bytes.the-variants.{Unspaced}
 use Rattle.text.specs.declared.Numeral.{Numeral}
 use Rattle.text.specs.declared.Numeral.the-variants.{NoNumber, Number}
 use Rattle.drawer_input.specs.declared.Values.{Values}
 use Rattle.drawer_input.specs.declared.Values.the-variants.{Line, NoLine}
 use Rattle.words.specs.Tests.{isPrefix}
-use Rattle.words.proofs.Booleans.{clash}
+use Rattle.words.proofs.Booleans.{and→, clash}
+use Rattle.words.proofs.Lists.{isPrefix→, →isPrefix}
 
 module _ (s : List ℕ) (n d kind at size : ℕ) (e : size ≡ length (run Unspaced (drop at s))) where
   pub no-limit : size ≡ 0 → NoLine ≡ limitAt s n d kind at
@@ -50,30 +56,100 @@ module _ (s : List ℕ) (at : ℕ) where
       unfolding valuesAt
       to-limit kind start g r h = rw (← e, ← f, ← g) h
 
--- a value line's limit lies within the text, with a byte behind it
-limit-inside : (s : List ℕ) (n d k at : ℕ) {m e j a z : ℕ} → Line m e j a z ≡ limitAt s n d k at → a + z < length s
-unfolding limitAt
-limit-inside s n d k at {m} {e} {j} {a} {z} h = go (not (eqb size 0) && isPrefix (feed ∷ []) (drop (at + size) s)) refl h
-  where
-    size : ℕ
-    size = length (run Unspaced (drop at s))
+-- ---- what stands at a place, by the parts of the text from there on
 
-    go : (t : Bool) → (not (eqb size 0) && isPrefix (feed ∷ []) (drop (at + size) s)) ≡ t → Line m e j a z ≡ cond t (Line n d k at size) NoLine → a + z < length s
-    go true q h =
-        let p : at ≡ a = cc in
-        let r : size ≡ z = cc in
-        let i = prefix-inside feed s (at + size) (and-eq-true-iff (not (eqb size 0)) (isPrefix (feed ∷ []) (drop (at + size) s)) .0 q .1) in
-        omega arith
-    go false q h = clash (cc)
+-- a limit and a line feed
+pub record LimitAt (s : List ℕ) (at size : ℕ) : Type 0 where
+  pub bytes : List ℕ
+  pub more : List ℕ
+  pub whole : drop at s ≡ bytes ++ (feed ∷ more)
+  pub some : 1 ≤ length bytes
+  pub unspaced : Every IsUnspaced bytes
+  pub long : size ≡ length bytes
 
-behind-line : {P : Type 0} {m e j a z : ℕ} (x : Numeral) (f : ℕ → ℕ → Values) → ((v p : ℕ) → Line m e j a z ≡ f v p → P) → Line m e j a z ≡ behind x f → P
-behind-line (Number v p) f go h = go v p h
+module _ {s : List ℕ} {at size : ℕ} (r : LimitAt s at size) where
+  limit-split : Split Unspaced (drop at s) (r .bytes)
+  unfolding belongs
+  limit-split = record { rest = feed ∷ r .more; whole = r .whole; every = every-map (λ b. unspaced-bytes b .1) (r .bytes) (r .unspaced); stops = refl }
+
+  pub limit-bytes : take size (drop at s) ≡ r .bytes
+  limit-bytes = ap (λ n. take n (drop at s)) (r .long) ∙ rw (r .whole) (take-append-seam (r .bytes) (feed ∷ r .more))
+
+  limit-found : (n d kind : ℕ) → Line n d kind at size ≡ limitAt s n d kind at
+  limit-found n d kind =
+      let end : drop (at + size) s ≡ feed ∷ r .more = rw (r .long) (drop-on s at (r .bytes) (feed ∷ r .more) (r .whole)) in
+      ended s n d kind at size (r .long ∙ ap length (sym (split-run limit-split))) (λ z. omega arith) (rw end (→isPrefix (feed ∷ []) (r .more)))
+
+-- three numbers, each with a space behind it, the limit and a line feed
+pub record LineAt (s : List ℕ) (at n d kind start size : ℕ) : Type 0 where
+  pub p : ℕ
+  pub q : ℕ
+  pub first : SpacedAt s at n p
+  pub second : SpacedAt s p d q
+  pub third : SpacedAt s q kind start
+  pub last : LimitAt s start size
+
+pub line-found : {s : List ℕ} {at n d kind start size : ℕ} → LineAt s at n d kind start size → Line n d kind start size ≡ valuesAt s at
+line-found {s} {at} {n} {d} {kind} {start} {size} r =
+    to-limit s at n (r .p) (spaced-found (r .first)) d (r .q) (spaced-found (r .second)) kind start (spaced-found (r .third)) _ (limit-found (r .last) n d kind)
+
+-- ---- what was read stands there
+
+module _ (s : List ℕ) (n d k at : ℕ) {m e j a z : ℕ} where
+  limit-read : Line m e j a z ≡ limitAt s n d k at → (m ≡ n) × (e ≡ d) × (j ≡ k) × (a ≡ at) × LimitAt s at z
+  unfolding limitAt
+  limit-read = go (not (eqb size 0) && isPrefix (feed ∷ []) (drop (at + size) s)) refl
+    where
+      bytes : List ℕ
+      bytes = run Unspaced (drop at s)
+
+      size : ℕ
+      size = length bytes
+
+      go : (t : Bool) → (not (eqb size 0) && isPrefix (feed ∷ []) (drop (at + size) s)) ≡ t → Line m e j a z ≡ cond t (Line n d k at size) NoLine → (m ≡ n) × (e ≡ d) × (j ≡ k) × (a ≡ at) × LimitAt s at z
+      go true q h =
+          let tests = and→ (not (eqb size 0)) (isPrefix (feed ∷ []) (drop (at + size) s)) q in
+          let r = run-split Unspaced (drop at s) in
+          let more = isPrefix→ (feed ∷ []) (drop (at + size) s) (tests .1) in
+          let some = eqb-false size 0 (not-true _ (tests .0)) in
+          let end : r .rest ≡ feed ∷ more .0 = sym (drop-on s at bytes (r .rest) (r .whole)) ∙ more .1 in
+          let there : LimitAt s at z =
+              record {
+                bytes = bytes;
+                more = more .0;
+                whole = r .whole ∙ ap (λ l. bytes ++ l) end;
+                some = omega arith;
+                unspaced = every-map (λ b. unspaced-bytes b .0) bytes (r .every);
+                long = cc;
+              }
+          in
+          (cc, cc, cc, cc, there)
+      go false q h = clash (cc)
+
+behind-line : {P : Type 0} {m e j a z : ℕ} (x : Numeral) (f : ℕ → ℕ → Values) → ((v p : ℕ) → Number v p ≡ x → Line m e j a z ≡ f v p → P) → Line m e j a z ≡ behind x f → P
+behind-line (Number v p) f go h = go v p refl h
 behind-line NoNumber f go h = clash (cc)
 
-pub line-inside : (s : List ℕ) (at : ℕ) {m e j a z : ℕ} → Line m e j a z ≡ valuesAt s at → a + z < length s
+pub line-read : (s : List ℕ) (at : ℕ) {m e j a z : ℕ} → Line m e j a z ≡ valuesAt s at → LineAt s at m e j a z
 unfolding valuesAt
-line-inside s at h =
-    behind-line (spacedAt s at) (λ n p. behind (spacedAt s p) (λ d q. behind (spacedAt s q) (limitAt s n d)))
-    (λ n p g.
-    behind-line (spacedAt s p) (λ d q. behind (spacedAt s q) (limitAt s n d))
-    (λ d q f. behind-line (spacedAt s q) (limitAt s n d) (λ k start l. limit-inside s n d k start l) f) g) h
+line-read s at {m} {e} {j} {a} {z} h = behind-line (spacedAt s at) _ stations h
+  where
+    limit : (n p d q kind start : ℕ) → SpacedAt s at n p → SpacedAt s p d q → SpacedAt s q kind start → Line m e j a z ≡ limitAt s n d kind start → LineAt s at m e j a z
+    limit n p d q kind start f g i l =
+        let r = limit-read s n d kind start l in
+        rw (r .0, r .1, r .2, r .3) (record { p = p; q = q; first = f; second = g; third = i; last = r .4 })
+
+    kinds : (n p d q : ℕ) → SpacedAt s at n p → SpacedAt s p d q → Line m e j a z ≡ behind (spacedAt s q) (limitAt s n d) → LineAt s at m e j a z
+    kinds n p d q f g l = behind-line (spacedAt s q) (limitAt s n d) (λ kind start i. limit n p d q kind start f g (spaced-read s q kind start i)) l
+
+    holes : (n p : ℕ) → SpacedAt s at n p → Line m e j a z ≡ behind (spacedAt s p) (λ d q. behind (spacedAt s q) (limitAt s n d)) → LineAt s at m e j a z
+    holes n p f l = behind-line (spacedAt s p) (λ d q. behind (spacedAt s q) (limitAt s n d)) (λ d q g. kinds n p d q f (spaced-read s p d q g)) l
+
+    stations : (n p : ℕ) → Number n p ≡ spacedAt s at → Line m e j a z ≡ behind (spacedAt s p) (λ d q. behind (spacedAt s q) (limitAt s n d)) → LineAt s at m e j a z
+    stations n p f l = holes n p (spaced-read s at n p f) l
+
+-- the limit lies within the text, with a byte behind it
+pub line-inside : (s : List ℕ) (at : ℕ) {m e j a z : ℕ} → Line m e j a z ≡ valuesAt s at → a + z < length s
+line-inside s at {m} {e} {j} {a} {z} h =
+    let r = line-read s at h .last in
+    omega (arith, length-drop a s, simp length-append at (ap length (r .whole)))

@@ -1,2 +1,3 @@
 -- The drawer program's input.
 pub mod Input
+pub mod Claims

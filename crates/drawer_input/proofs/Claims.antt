@@ -1,0 +1,236 @@
+-- Which texts are taken, and which line is named of the others.
+use mathlib.Core.Bool.{Bool, false, false≢true, true}
+use mathlib.Core.List.{List, [], append-assoc, append-nil, map, _++_, _∷_}
+use mathlib.Core.Logic.{inl, inr, ⊎-elim, _⊎_}
+use mathlib.Core.Path.{ap, refl, subst, sym, _∙_, _≡_}
+use Prim.Native.Nat.{ℕ, _+_, _<_, _≤_}
+use native.Mathlib.Omega.{arith}
+use lib.ListN.{drop, length, length-append, length-drop, take}
+use lib.Seq.{drop-append-seam}
+use Rattle.drawer_input.proofs.Inputs.{all-read, misnamed, no-values, over-long, too-many}
+use Rattle.drawer_input.proofs.ValueLines.{LimitAt, LineAt, limit-bytes, line-found, line-read}
+use Rattle.drawer_input.specs.Claims.{FirstExactly, FirstFaulty, Named, NoOther, SecondExactly, SecondFaulty, Taken, TakenExactly, ThirdExactly, ThirdFaulty, ValueLine, namesLine}
+use Rattle.drawer_input.specs.Input.{Asked, mostBytes, names, readDrawer, valuesAt}
+use Rattle.drawer_input.specs.declared.Values.{Values}
+use Rattle.drawer_input.specs.declared.Values.the-variants.{Line, NoLine}
+use Rattle.refusal.specs.Outcomes.{Outcome, given, refused}
+use Rattle.refusal.specs.declared.Refusal.{Refusal}
+use Rattle.refusal.specs.declared.Refusal.the-variants.{Text}
+use Rattle.text.proofs.Places.{SpacedAt, drop-on, spaced-rest}
+use Rattle.text.specs.Ascii.{ascii}
+use Rattle.text.specs.Decimals.{decimal}
+use Rattle.text.specs.Parts.{feed, space}
+use Rattle.text.specs.Symbols.{symbolOf}
+use Rattle.words.proofs.Below.{le-or}
+use Rattle.words.proofs.Booleans.{clash, never}
+use Rattle.words.proofs.Lists.{isPrefix→, →isPrefix}
+use Rattle.words.specs.Tests.{isPrefix}
+
+names-line : names ≡ namesLine
+unfolding ascii
+names-line = refl
+
+-- ---- a line of values, and what stands at a place
+
+-- what is read at a place, with the limit's start and size
+abbrev asked : List ℕ → ℕ → ℕ → ℕ → ℕ → ℕ → Asked
+asked s n d kind start size = record { stations = n; holes = d; kind = kind; limit = map symbolOf (take size (drop start s)) }
+
+-- the parts of a line and what follows it
+abbrev parts : ℕ → ℕ → ℕ → List ℕ → List ℕ → List ℕ
+parts n d kind bytes more = decimal n ++ (space ∷ (decimal d ++ (space ∷ (decimal kind ++ (space ∷ (bytes ++ (feed ∷ more)))))))
+
+line-parts : (n d kind : ℕ) (bytes more : List ℕ) → (decimal n ++ ascii " " ++ decimal d ++ ascii " " ++ decimal kind ++ ascii " " ++ bytes ++ ascii "\n") ++ more ≡ parts n d kind bytes more
+unfolding ascii
+line-parts n d kind bytes more = simp append-assoc
+
+line-length : (n d kind : ℕ) (bytes more line : List ℕ) → line ++ more ≡ parts n d kind bytes more → length line ≡ length (decimal n) + 1 + length (decimal d) + 1 + length (decimal kind) + 1 + length bytes + 1
+line-length n d kind bytes more line e = omega (arith, simp length-append at (ap length e))
+
+-- a line of values that stands at a place is read there
+record Found (s : List ℕ) (at : ℕ) (line : List ℕ) (a : Asked) : Type 0 where
+  start : ℕ
+  size : ℕ
+  there : LineAt s at (a .stations) (a .holes) (a .kind) start size
+  limit : map symbolOf (take size (drop start s)) ≡ a .limit
+  end : start + size + 1 ≡ at + length line
+
+found : (s : List ℕ) (at : ℕ) (line more : List ℕ) (a : Asked) → drop at s ≡ line ++ more → ValueLine line a → Found s at line a
+found s at line more a e v =
+    let n = a .stations in
+    let d = a .holes in
+    let kind = a .kind in
+    let w : line ++ more ≡ parts n d kind (v .bytes) more = ap (λ l. l ++ more) (v .whole) ∙ line-parts n d kind (v .bytes) more in
+    let p = at + length (decimal n) + 1 in
+    let first : SpacedAt s at n p = record { below = v .numbers .0; rest = _; whole = e ∙ w; behind = refl } in
+    let q = p + length (decimal d) + 1 in
+    let second : SpacedAt s p d q = record { below = v .numbers .1; rest = _; whole = spaced-rest first; behind = refl } in
+    let start = q + length (decimal kind) + 1 in
+    let third : SpacedAt s q kind start = record { below = v .numbers .2; rest = _; whole = spaced-rest second; behind = refl } in
+    let last : LimitAt s start (length (v .bytes)) =
+        record {
+          bytes = v .bytes;
+          more = more;
+          whole = spaced-rest third;
+          some = v .some;
+          unspaced = v .unspaced;
+          long = refl;
+        }
+    in
+    record {
+      start = start;
+      size = length (v .bytes);
+      there = record { p = p; q = q; first = first; second = second; third = third; last = last };
+      limit = ap (map symbolOf) (limit-bytes last) ∙ sym (v .symbols);
+      end = omega (arith, line-length n d kind (v .bytes) more line w);
+    }
+
+-- what is read at a place is a line of values that stands there
+record Standing (s : List ℕ) (at : ℕ) (a : Asked) (end : ℕ) : Type 0 where
+  line : List ℕ
+  more : List ℕ
+  whole : drop at s ≡ line ++ more
+  values : ValueLine line a
+  behind : end ≡ at + length line
+
+standing : {s : List ℕ} {at n d kind start size : ℕ} → LineAt s at n d kind start size → Standing s at (asked s n d kind start size) (start + size + 1)
+standing {s} {at} {n} {d} {kind} {start} {size} r =
+    let l = r .last in
+    let line = decimal n ++ ascii " " ++ decimal d ++ ascii " " ++ decimal kind ++ ascii " " ++ l .bytes ++ ascii "\n" in
+    let w : drop at s ≡ parts n d kind (l .bytes) (l .more) = cc (spaced-rest (r .first), spaced-rest (r .second), spaced-rest (r .third)) in
+    record {
+      line = line;
+      more = l .more;
+      whole = w ∙ sym (line-parts n d kind (l .bytes) (l .more));
+      values =
+          record {
+            numbers = (r .first .below, r .second .below, r .third .below);
+            bytes = l .bytes;
+            some = l .some;
+            unspaced = l .unspaced;
+            symbols = ap (map symbolOf) (limit-bytes l);
+            whole = refl;
+          };
+      behind = omega (arith, line-length n d kind (l .bytes) (l .more) line (line-parts n d kind (l .bytes) (l .more)));
+    }
+
+-- ---- from the facts to what is read
+
+module _ {s rest : List ℕ} (n : Named s rest) where
+  behind-names : s ≡ names ++ rest
+  behind-names = n .whole ∙ ap (λ l. l ++ rest) (sym names-line)
+
+  is-named : isPrefix names s ≡ true
+  is-named = rw behind-names (→isPrefix names rest)
+
+  rest-there : drop (length names) s ≡ rest
+  rest-there = ap (drop (length names)) behind-names ∙ drop-append-seam names rest
+
+  whole-length : length s ≡ length names + length rest
+  whole-length = ap length behind-names ∙ length-append names rest
+
+→first : (s : List ℕ) → FirstFaulty s → readDrawer s ≡ refused (Text 1)
+→first s (inl h) = over-long s h
+→first s (inr f) = ⊎-elim (λ h. misnamed s h (never (isPrefix names s) other)) (over-long s) (le-or (length s) mostBytes)
+  where
+    other : isPrefix names s ≡ true → ⊥
+    other e = let r = isPrefix→ names s e in f (r .0) (r .1 ∙ ap (λ l. l ++ r .0) names-line)
+
+→second : (s : List ℕ) → SecondFaulty s → readDrawer s ≡ refused (Text 2)
+→second s f = go (valuesAt s (length names)) refl
+  where
+    go : (v : Values) → v ≡ valuesAt s (length names) → readDrawer s ≡ refused (Text 2)
+    go NoLine e = no-values s (f .named .few) (is-named (f .named)) e
+    go (Line n d kind start size) e =
+        let r = standing (line-read s (length names) e) in
+        absurd (f .none (r .line) (r .more) _ (sym (rest-there (f .named)) ∙ r .whole) (r .values))
+
+→third : (s : List ℕ) → ThirdFaulty s → readDrawer s ≡ refused (Text 3)
+→third s f =
+    let r = found s (length names) (f .line) (f .more) (f .asked) (rest-there (f .named)) (f .values) in
+    let l = whole-length (f .named) ∙ ap (λ m. length names + m) (length-append (f .line) (f .more)) in
+    too-many s (f .named .few) (is-named (f .named)) _ _ _ _ _ (line-found (r .there)) (λ e. omega arith)
+
+→taken : (s : List ℕ) (a : Asked) → Taken s a → readDrawer s ≡ given a
+→taken s a t =
+    let r = found s (length names) (t .line) [] a (rest-there (t .named) ∙ sym (append-nil (t .line))) (t .values) in
+    all-read s (t .named .few) (is-named (t .named)) _ _ _ _ _ (line-found (r .there)) (omega (arith, whole-length (t .named)))
+    ∙ ap (λ l. given (record { stations = a .stations; holes = a .holes; kind = a .kind; limit = l })) (r .limit)
+
+-- ---- what is read has its facts
+
+data Read (s : List ℕ) : Outcome Asked → Type 0 where
+  first : FirstFaulty s → Read s (refused (Text 1))
+  second : SecondFaulty s → Read s (refused (Text 2))
+  third : ThirdFaulty s → Read s (refused (Text 3))
+  taken : (a : Asked) → Taken s a → Read s (given a)
+
+read : (s : List ℕ) → Read s (readDrawer s)
+read s = ⊎-elim (λ h. named h (isPrefix names s) refl) (λ h. subst (Read s) (sym (over-long s h)) (first (inl h))) (le-or (length s) mostBytes)
+  where
+    ended : (n d kind start size : ℕ) (rest : List ℕ) → Named s rest → Line n d kind start size ≡ valuesAt s (length names) → (line more : List ℕ) → rest ≡ line ++ more → ValueLine line (asked s n d kind start size) → start + size + 1 ≡ length names + length line → Read s (readDrawer s)
+    ended n d kind start size rest w e line [] p v b =
+        let whole : rest ≡ line = p ∙ append-nil line in
+        let k : start + size + 1 ≡ length s = omega (arith, whole-length w, ap length whole) in
+        subst (Read s) (sym (all-read s (w .few) (is-named w) n d kind start size e k))
+        (taken _ (record { line = line; named = rw (← whole) w; values = v }))
+    ended n d kind start size rest w e line (x ∷ more) p v b =
+        let k : start + size + 1 ≡ length s → ⊥ = λ q. omega (arith, whole-length w, simp length-append at (ap length p)) in
+        subst (Read s) (sym (too-many s (w .few) (is-named w) n d kind start size e k))
+        (third (record { line = line; more = x ∷ more; asked = _; named = rw (← p) w; values = v; some = omega arith }))
+
+    lines : (rest : List ℕ) → Named s rest → (v : Values) → v ≡ valuesAt s (length names) → Read s (readDrawer s)
+    lines rest w NoLine e =
+        let none : (line more : List ℕ) (a : Asked) → rest ≡ line ++ more → ValueLine line a → ⊥ =
+            λ line more a p v.
+            let r = found s (length names) line more a (rest-there w ∙ p) v in
+            clash (cc (e, line-found (r .there)))
+        in
+        subst (Read s) (sym (no-values s (w .few) (is-named w) e)) (second (record { rest = rest; named = w; none = none }))
+    lines rest w (Line n d kind start size) e =
+        let r = standing (line-read s (length names) e) in
+        ended n d kind start size rest w e (r .line) (r .more) (sym (rest-there w) ∙ r .whole) (r .values) (r .behind)
+
+    named : length s ≤ mostBytes → (t : Bool) → isPrefix names s ≡ t → Read s (readDrawer s)
+    named h false n =
+        let other : (rest : List ℕ) → s ≡ namesLine ++ rest → ⊥ =
+            λ rest e. false≢true (sym n ∙ is-named (record { few = h; whole = e }))
+        in
+        subst (Read s) (sym (misnamed s h n)) (first (inr other))
+    named h true n =
+        let r = isPrefix→ names s n in
+        lines (r .0) (record { few = h; whole = r .1 ∙ ap (λ l. l ++ r .0) names-line }) (valuesAt s (length names)) refl
+
+-- ---- the claims
+
+is-first : {s : List ℕ} → Read s (refused (Text 1)) → FirstFaulty s
+is-first (first f) = f
+
+is-second : {s : List ℕ} → Read s (refused (Text 2)) → SecondFaulty s
+is-second (second f) = f
+
+is-third : {s : List ℕ} → Read s (refused (Text 3)) → ThirdFaulty s
+is-third (third f) = f
+
+is-taken : {s : List ℕ} {a : Asked} → Read s (given a) → Taken s a
+is-taken (taken a t) = t
+
+is-refused : {s : List ℕ} {r : Refusal} → Read s (refused r) → (r ≡ Text 1) ⊎ ((r ≡ Text 2) ⊎ (r ≡ Text 3))
+is-refused (first f) = inl refl
+is-refused (second f) = inr (inl refl)
+is-refused (third f) = inr (inr refl)
+
+pub taken-exactly : TakenExactly
+taken-exactly s a = (λ e. is-taken (subst (Read s) e (read s)), →taken s a)
+
+pub first-exactly : FirstExactly
+first-exactly s = (λ e. is-first (subst (Read s) e (read s)), →first s)
+
+pub second-exactly : SecondExactly
+second-exactly s = (λ e. is-second (subst (Read s) e (read s)), →second s)
+
+pub third-exactly : ThirdExactly
+third-exactly s = (λ e. is-third (subst (Read s) e (read s)), →third s)
+
+pub no-other : NoOther
+no-other s r e = is-refused (subst (Read s) e (read s))
