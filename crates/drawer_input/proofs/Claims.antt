@@ -1,14 +1,15 @@
 -- Which texts are taken, and which line is named of the others.
 use mathlib.Core.Bool.{Bool, false, false≢true, true}
-use mathlib.Core.List.{List, [], append-assoc, append-nil, map, _++_, _∷_}
+use mathlib.Core.List.{List, [], append-nil, _++_, _∷_}
 use mathlib.Core.Logic.{inl, inr, ⊎-elim, _⊎_}
 use mathlib.Core.Path.{ap, refl, subst, sym, _∙_, _≡_}
-use Prim.Native.Nat.{ℕ, _+_, _<_, _≤_}
+use Prim.Native.Nat.{ℕ, _+_, _≤_}
 use native.Mathlib.Omega.{arith}
-use lib.ListN.{drop, length, length-append, length-drop, take}
+use lib.ListN.{drop, length, length-append}
 use lib.Seq.{drop-append-seam}
 use Rattle.drawer_input.proofs.Inputs.{all-read, misnamed, no-values, over-long, too-many}
-use Rattle.drawer_input.proofs.ValueLines.{LimitAt, LineAt, limit-bytes, line-found, line-read}
+use Rattle.drawer_input.proofs.ValueLines.{line-found, line-read}
+use Rattle.drawer_input.proofs.WrittenLines.{asked, found, standing}
 use Rattle.drawer_input.specs.Claims.{FirstExactly, FirstFaulty, Named, NoOther, SecondExactly, SecondFaulty, Taken, TakenExactly, ThirdExactly, ThirdFaulty, ValueLine, namesLine}
 use Rattle.drawer_input.specs.Input.{Asked, mostBytes, names, readDrawer, valuesAt}
 use Rattle.drawer_input.specs.declared.Values.{Values}
@@ -16,11 +17,7 @@ use Rattle.drawer_input.specs.declared.Values.the-variants.{Line, NoLine
 use Rattle.refusal.specs.Outcomes.{Outcome, given, refused}
 use Rattle.refusal.specs.declared.Refusal.{Refusal}
 use Rattle.refusal.specs.declared.Refusal.the-variants.{Text}
-use Rattle.text.proofs.Places.{SpacedAt, drop-on, spaced-rest}
 use Rattle.text.specs.Ascii.{ascii}
-use Rattle.text.specs.Decimals.{decimal}
-use Rattle.text.specs.Parts.{feed, space}
-use Rattle.text.specs.Symbols.{symbolOf}
 use Rattle.words.proofs.Below.{le-or}
 use Rattle.words.proofs.Booleans.{clash, never}
 use Rattle.words.proofs.Lists.{isPrefix→, →isPrefix}
@@ -29,90 +26,6 @@ use Rattle.words.specs.Tests.{isPrefix}
 names-line : names ≡ namesLine
 unfolding ascii
 names-line = refl
-
--- ---- a line of values, and what stands at a place
-
--- what is read at a place, with the limit's start and size
-abbrev asked : List ℕ → ℕ → ℕ → ℕ → ℕ → ℕ → Asked
-asked s n d kind start size = record { stations = n; holes = d; kind = kind; limit = map symbolOf (take size (drop start s)) }
-
--- the parts of a line and what follows it
-abbrev parts : ℕ → ℕ → ℕ → List ℕ → List ℕ → List ℕ
-parts n d kind bytes more = decimal n ++ (space ∷ (decimal d ++ (space ∷ (decimal kind ++ (space ∷ (bytes ++ (feed ∷ more)))))))
-
-line-parts : (n d kind : ℕ) (bytes more : List ℕ) → (decimal n ++ ascii " " ++ decimal d ++ ascii " " ++ decimal kind ++ ascii " " ++ bytes ++ ascii "\n") ++ more ≡ parts n d kind bytes more
-unfolding ascii
-line-parts n d kind bytes more = simp append-assoc
-
-line-length : (n d kind : ℕ) (bytes more line : List ℕ) → line ++ more ≡ parts n d kind bytes more → length line ≡ length (decimal n) + 1 + length (decimal d) + 1 + length (decimal kind) + 1 + length bytes + 1
-line-length n d kind bytes more line e = omega (arith, simp length-append at (ap length e))
-
--- a line of values that stands at a place is read there
-record Found (s : List ℕ) (at : ℕ) (line : List ℕ) (a : Asked) : Type 0 where
-  start : ℕ
-  size : ℕ
-  there : LineAt s at (a .stations) (a .holes) (a .kind) start size
-  limit : map symbolOf (take size (drop start s)) ≡ a .limit
-  end : start + size + 1 ≡ at + length line
-
-found : (s : List ℕ) (at : ℕ) (line more : List ℕ) (a : Asked) → drop at s ≡ line ++ more → ValueLine line a → Found s at line a
-found s at line more a e v =
-    let n = a .stations in
-    let d = a .holes in
-    let kind = a .kind in
-    let w : line ++ more ≡ parts n d kind (v .bytes) more = ap (λ l. l ++ more) (v .whole) ∙ line-parts n d kind (v .bytes) more in
-    let p = at + length (decimal n) + 1 in
-    let first : SpacedAt s at n p = record { below = v .numbers .0; rest = _; whole = e ∙ w; behind = refl } in
-    let q = p + length (decimal d) + 1 in
-    let second : SpacedAt s p d q = record { below = v .numbers .1; rest = _; whole = spaced-rest first; behind = refl } in
-    let start = q + length (decimal kind) + 1 in
-    let third : SpacedAt s q kind start = record { below = v .numbers .2; rest = _; whole = spaced-rest second; behind = refl } in
-    let last : LimitAt s start (length (v .bytes)) =
-        record {
-          bytes = v .bytes;
-          more = more;
-          whole = spaced-rest third;
-          some = v .some;
-          unspaced = v .unspaced;
-          long = refl;
-        }
-    in
-    record {
-      start = start;
-      size = length (v .bytes);
-      there = record { p = p; q = q; first = first; second = second; third = third; last = last };
-      limit = ap (map symbolOf) (limit-bytes last) ∙ sym (v .symbols);
-      end = omega (arith, line-length n d kind (v .bytes) more line w);
-    }
-
--- what is read at a place is a line of values that stands there
-record Standing (s : List ℕ) (at : ℕ) (a : Asked) (end : ℕ) : Type 0 where
-  line : List ℕ
-  more : List ℕ
-  whole : drop at s ≡ line ++ more
-  values : ValueLine line a
-  behind : end ≡ at + length line
-
-standing : {s : List ℕ} {at n d kind start size : ℕ} → LineAt s at n d kind start size → Standing s at (asked s n d kind start size) (start + size + 1)
-standing {s} {at} {n} {d} {kind} {start} {size} r =
-    let l = r .last in
-    let line = decimal n ++ ascii " " ++ decimal d ++ ascii " " ++ decimal kind ++ ascii " " ++ l .bytes ++ ascii "\n" in
-    let w : drop at s ≡ parts n d kind (l .bytes) (l .more) = cc (spaced-rest (r .first), spaced-rest (r .second), spaced-rest (r .third)) in
-    record {
-      line = line;
-      more = l .more;
-      whole = w ∙ sym (line-parts n d kind (l .bytes) (l .more));
-      values =
-          record {
-            numbers = (r .first .below, r .second .below, r .third .below);
-            bytes = l .bytes;
-            some = l .some;
-            unspaced = l .unspaced;
-            symbols = ap (map symbolOf) (limit-bytes l);
-            whole = refl;
-          };
-      behind = omega (arith, line-length n d kind (l .bytes) (l .more) line (line-parts n d kind (l .bytes) (l .more)));
-    }
 
 -- ---- from the facts to what is read
 
@@ -182,9 +95,9 @@ read s = ⊎-elim (λ h. named h (isPrefix names s) refl) (λ h. subst (Read s) 
     lines : (rest : List ℕ) → Named s rest → (v : Values) → v ≡ valuesAt s (length names) → Read s (readDrawer s)
     lines rest w NoLine e =
         let none : (line more : List ℕ) (a : Asked) → rest ≡ line ++ more → ValueLine line a → ⊥ =
-            λ line more a p v.
-            let r = found s (length names) line more a (rest-there w ∙ p) v in
-            clash (cc (e, line-found (r .there)))
+        λ line more a p v.
+        let r = found s (length names) line more a (rest-there w ∙ p) v in
+        clash (cc (e, line-found (r .there)))
         in
         subst (Read s) (sym (no-values s (w .few) (is-named w) e)) (second (record { rest = rest; named = w; none = none }))
     lines rest w (Line n d kind start size) e =
@@ -194,7 +107,7 @@ read s = ⊎-elim (λ h. named h (isPrefix names s) refl) (λ h. subst (Read s) 
     named : length s ≤ mostBytes → (t : Bool) → isPrefix names s ≡ t → Read s (readDrawer s)
     named h false n =
         let other : (rest : List ℕ) → s ≡ namesLine ++ rest → ⊥ =
-            λ rest e. false≢true (sym n ∙ is-named (record { few = h; whole = e }))
+        λ rest e. false≢true (sym n ∙ is-named (record { few = h; whole = e }))
         in
         subst (Read s) (sym (misnamed s h n)) (first (inr other))
     named h true n =

@@ -1,5 +1,7 @@
 -- limits, and lines of values
 pub mod ValueLines
+-- lines of values as they are written
+pub mod WrittenLines
 -- the whole input
 pub mod Inputs
 -- what is claimed in specs/

@@ -114,14 +114,14 @@ module _ (s : List ℕ) (n d k at : ℕ) {m e j a z : ℕ} where
           let some = eqb-false size 0 (not-true _ (tests .0)) in
           let end : r .rest ≡ feed ∷ more .0 = sym (drop-on s at bytes (r .rest) (r .whole)) ∙ more .1 in
           let there : LimitAt s at z =
-              record {
-                bytes = bytes;
-                more = more .0;
-                whole = r .whole ∙ ap (λ l. bytes ++ l) end;
-                some = omega arith;
-                unspaced = every-map (λ b. unspaced-bytes b .0) bytes (r .every);
-                long = cc;
-              }
+          record {
+            bytes = bytes;
+            more = more .0;
+            whole = r .whole ∙ ap (λ l. bytes ++ l) end;
+            some = omega arith;
+            unspaced = every-map (λ b. unspaced-bytes b .0) bytes (r .every);
+            long = cc;
+          }
           in
           (cc, cc, cc, cc, there)
       go false q h = clash (cc)

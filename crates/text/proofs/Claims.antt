@@ -1,7 +1,7 @@
 -- What symbols and the sorts of bytes are.
 use mathlib.Core.Bool.{Bool, cond, false, not, true}
 use mathlib.Core.Path.{refl, _≡_}
-use Prim.Native.Nat.{suc, zero, ℕ}
+use Prim.Native.Nat.{suc, zero}
 use native.Mathlib.Omega.{arith}
 use lib.Dec.{eqb, leb}
 use borrow.Author.Tests.{eqb-false, eqb-true, le-leb, leb-true, ne-eqb, not-true}
