@@ -10,7 +10,8 @@ use lib.Seq.{drop-append-seam}
 use Rattle.drawer_input.proofs.Inputs.{all-read, misnamed, no-values, over-long, too-many}
 use Rattle.drawer_input.proofs.ValueLines.{line-found, line-read}
 use Rattle.drawer_input.proofs.WrittenLines.{asked, found, standing}
-use Rattle.drawer_input.specs.Claims.{FirstExactly, FirstFaulty, Named, NoOther, SecondExactly, SecondFaulty, Taken, TakenExactly, ThirdExactly, ThirdFaulty, ValueLine, namesLine}
+use Rattle.drawer_input.specs.Claims.{FirstExactly, FirstFaulty, Named, NoOther, SecondExactly, SecondFaulty}
+use Rattle.drawer_input.specs.Claims.{Taken, TakenExactly, ThirdExactly, ThirdFaulty, ValueLine, namesLine}
 use Rattle.drawer_input.specs.Input.{Asked, mostBytes, names, readDrawer, valuesAt}
 use Rattle.drawer_input.specs.declared.Values.{Values}
 use Rattle.drawer_input.specs.declared.Values.the-variants.{Line, NoLine}
@@ -44,7 +45,8 @@ module _ {s rest : List ℕ} (n : Named s rest) where
 
 →first : (s : List ℕ) → FirstFaulty s → readDrawer s ≡ refused (Text 1)
 →first s (inl h) = over-long s h
-→first s (inr f) = ⊎-elim (λ h. misnamed s h (never (isPrefix names s) other)) (over-long s) (le-or (length s) mostBytes)
+→first s (inr f) =
+    ⊎-elim (λ h. misnamed s h (never (isPrefix names s) other)) (over-long s) (le-or (length s) mostBytes)
   where
     other : isPrefix names s ≡ true → ⊥
     other e = let r = isPrefix→ names s e in f (r .0) (r .1 ∙ ap (λ l. l ++ r .0) names-line)
@@ -67,7 +69,8 @@ module _ {s rest : List ℕ} (n : Named s rest) where
 →taken : (s : List ℕ) (a : Asked) → Taken s a → readDrawer s ≡ given a
 →taken s a t =
     let r = found s (length names) (t .line) [] a (rest-there (t .named) ∙ sym (append-nil (t .line))) (t .values) in
-    all-read s (t .named .few) (is-named (t .named)) _ _ _ _ _ (line-found (r .there)) (omega (arith, whole-length (t .named)))
+    let end : r .start + r .size + 1 ≡ length s = omega (arith, whole-length (t .named)) in
+    all-read s (t .named .few) (is-named (t .named)) _ _ _ _ _ (line-found (r .there)) end
     ∙ ap (λ l. given (record { stations = a .stations; holes = a .holes; kind = a .kind; limit = l })) (r .limit)
 
 -- ---- what is read has its facts
@@ -79,16 +82,22 @@ data Read (s : List ℕ) : Outcome Asked → Type 0 where
   taken : (a : Asked) → Taken s a → Read s (given a)
 
 read : (s : List ℕ) → Read s (readDrawer s)
-read s = ⊎-elim (λ h. named h (isPrefix names s) refl) (λ h. subst (Read s) (sym (over-long s h)) (first (inl h))) (le-or (length s) mostBytes)
+read s =
+    ⊎-elim (λ h. named h (isPrefix names s) refl) (λ h. subst (Read s) (sym (over-long s h)) (first (inl h)))
+    (le-or (length s) mostBytes)
   where
-    ended : (n d kind start size : ℕ) (rest : List ℕ) → Named s rest → Line n d kind start size ≡ valuesAt s (length names) → (line more : List ℕ) → rest ≡ line ++ more → ValueLine line (asked s n d kind start size) → start + size + 1 ≡ length names + length line → Read s (readDrawer s)
+    ended : (n d kind start size : ℕ) (rest : List ℕ) → Named s rest
+        → Line n d kind start size ≡ valuesAt s (length names)
+        → (line more : List ℕ) → rest ≡ line ++ more → ValueLine line (asked s n d kind start size)
+        → start + size + 1 ≡ length names + length line → Read s (readDrawer s)
     ended n d kind start size rest w e line [] p v b =
         let whole : rest ≡ line = p ∙ append-nil line in
         let k : start + size + 1 ≡ length s = omega (arith, whole-length w, ap length whole) in
         subst (Read s) (sym (all-read s (w .few) (is-named w) n d kind start size e k))
         (taken _ (record { line = line; named = rw (← whole) w; values = v }))
     ended n d kind start size rest w e line (x ∷ more) p v b =
-        let k : start + size + 1 ≡ length s → ⊥ = λ q. omega (arith, whole-length w, simp length-append at (ap length p)) in
+        let l = whole-length w ∙ ap (λ r. length names + length r) p in
+        let k : start + size + 1 ≡ length s → ⊥ = λ q. omega (arith, simp length-append at l) in
         subst (Read s) (sym (too-many s (w .few) (is-named w) n d kind start size e k))
         (third (record { line = line; more = x ∷ more; asked = _; named = rw (← p) w; values = v; some = omega arith }))
 
@@ -99,7 +108,8 @@ read s = ⊎-elim (λ h. named h (isPrefix names s) refl) (λ h. subst (Read s) 
         let r = found s (length names) line more a (rest-there w ∙ p) v in
         clash (cc (e, line-found (r .there)))
         in
-        subst (Read s) (sym (no-values s (w .few) (is-named w) e)) (second (record { rest = rest; named = w; none = none }))
+        subst (Read s) (sym (no-values s (w .few) (is-named w) e))
+        (second (record { rest = rest; named = w; none = none }))
     lines rest w (Line n d kind start size) e =
         let r = standing (line-read s (length names) e) in
         ended n d kind start size rest w e (r .line) (r .more) (sym (rest-there w) ∙ r .whole) (r .values) (r .behind)
@@ -112,7 +122,8 @@ read s = ⊎-elim (λ h. named h (isPrefix names s) refl) (λ h. subst (Read s) 
         subst (Read s) (sym (misnamed s h n)) (first (inr other))
     named h true n =
         let r = isPrefix→ names s n in
-        lines (r .0) (record { few = h; whole = r .1 ∙ ap (λ l. l ++ r .0) names-line }) (valuesAt s (length names)) refl
+        let w : Named s (r .0) = record { few = h; whole = r .1 ∙ ap (λ l. l ++ r .0) names-line } in
+        lines (r .0) w (valuesAt s (length names)) refl
 
 -- ---- the claims
 

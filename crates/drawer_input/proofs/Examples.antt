@@ -33,7 +33,7 @@ pub example-line-1 :
 unfolding ascii readDrawer isPrefix
 example-line-1 = (refl, refl)
 
--- nothing behind the names; a leading zero; four digits; a colon, which follows the digit 9; two spaces; no limit; no line feed
+-- nothing behind the names; a leading zero; four digits; a colon, the byte behind 9; two spaces; no limit; no line feed
 pub example-line-2 :
     (behindNames [] ≡ refused (Text 2))
     × (behindNames (ascii "06 3 1 111111\n") ≡ refused (Text 2))

@@ -70,15 +70,22 @@ pub record LimitAt (s : List ℕ) (at size : ℕ) : Type 0 where
 module _ {s : List ℕ} {at size : ℕ} (r : LimitAt s at size) where
   limit-split : Split Unspaced (drop at s) (r .bytes)
   unfolding belongs
-  limit-split = record { rest = feed ∷ r .more; whole = r .whole; every = every-map (λ b. unspaced-bytes b .1) (r .bytes) (r .unspaced); stops = refl }
+  limit-split =
+      record {
+        rest = feed ∷ r .more;
+        whole = r .whole;
+        every = every-map (λ b. unspaced-bytes b .1) (r .bytes) (r .unspaced);
+        stops = refl;
+      }
 
   pub limit-bytes : take size (drop at s) ≡ r .bytes
   limit-bytes = ap (λ n. take n (drop at s)) (r .long) ∙ rw (r .whole) (take-append-seam (r .bytes) (feed ∷ r .more))
 
   limit-found : (n d kind : ℕ) → Line n d kind at size ≡ limitAt s n d kind at
   limit-found n d kind =
-      let end : drop (at + size) s ≡ feed ∷ r .more = rw (r .long) (drop-on s at (r .bytes) (feed ∷ r .more) (r .whole)) in
-      ended s n d kind at size (r .long ∙ ap length (sym (split-run limit-split))) (λ z. omega arith) (rw end (→isPrefix (feed ∷ []) (r .more)))
+      let end = ap (λ i. drop (at + i) s) (r .long) ∙ drop-on s at (r .bytes) (feed ∷ r .more) (r .whole) in
+      ended s n d kind at size (r .long ∙ ap length (sym (split-run limit-split))) (λ z. omega arith)
+      (rw end (→isPrefix (feed ∷ []) (r .more)))
 
 -- three numbers, each with a space behind it, the limit and a line feed
 pub record LineAt (s : List ℕ) (at n d kind start size : ℕ) : Type 0 where
@@ -89,9 +96,11 @@ pub record LineAt (s : List ℕ) (at n d kind start size : ℕ) : Type 0 where
   pub third : SpacedAt s q kind start
   pub last : LimitAt s start size
 
-pub line-found : {s : List ℕ} {at n d kind start size : ℕ} → LineAt s at n d kind start size → Line n d kind start size ≡ valuesAt s at
+pub line-found : {s : List ℕ} {at n d kind start size : ℕ} → LineAt s at n d kind start size
+    → Line n d kind start size ≡ valuesAt s at
 line-found {s} {at} {n} {d} {kind} {start} {size} r =
-    to-limit s at n (r .p) (spaced-found (r .first)) d (r .q) (spaced-found (r .second)) kind start (spaced-found (r .third)) _ (limit-found (r .last) n d kind)
+    to-limit s at n (r .p) (spaced-found (r .first)) d (r .q) (spaced-found (r .second)) kind start
+    (spaced-found (r .third)) _ (limit-found (r .last) n d kind)
 
 -- ---- what was read stands there
 
@@ -106,7 +115,9 @@ module _ (s : List ℕ) (n d k at : ℕ) {m e j a z : ℕ} where
       size : ℕ
       size = length bytes
 
-      go : (t : Bool) → (not (eqb size 0) && isPrefix (feed ∷ []) (drop (at + size) s)) ≡ t → Line m e j a z ≡ cond t (Line n d k at size) NoLine → (m ≡ n) × (e ≡ d) × (j ≡ k) × (a ≡ at) × LimitAt s at z
+      go : (t : Bool) → (not (eqb size 0) && isPrefix (feed ∷ []) (drop (at + size) s)) ≡ t
+          → Line m e j a z ≡ cond t (Line n d k at size) NoLine
+          → (m ≡ n) × (e ≡ d) × (j ≡ k) × (a ≡ at) × LimitAt s at z
       go true q h =
           let tests = and→ (not (eqb size 0)) (isPrefix (feed ∷ []) (drop (at + size) s)) q in
           let r = run-split Unspaced (drop at s) in
@@ -126,27 +137,25 @@ module _ (s : List ℕ) (n d k at : ℕ) {m e j a z : ℕ} where
           (cc, cc, cc, cc, there)
       go false q h = clash (cc)
 
-behind-line : {P : Type 0} {m e j a z : ℕ} (x : Numeral) (f : ℕ → ℕ → Values) → ((v p : ℕ) → Number v p ≡ x → Line m e j a z ≡ f v p → P) → Line m e j a z ≡ behind x f → P
-behind-line (Number v p) f go h = go v p refl h
-behind-line NoNumber f go h = clash (cc)
+behind-spaced : {P : Type 0} {m e j a z : ℕ} (s : List ℕ) (at : ℕ) (f : ℕ → ℕ → Values)
+    → ((v p : ℕ) → SpacedAt s at v p → Line m e j a z ≡ f v p → P) → Line m e j a z ≡ behind (spacedAt s at) f → P
+behind-spaced {P} {m} {e} {j} {a} {z} s at f go = which (spacedAt s at) refl
+  where
+    which : (x : Numeral) → x ≡ spacedAt s at → Line m e j a z ≡ behind x f → P
+    which (Number v p) q h = go v p (spaced-read s at v p q) h
+    which NoNumber q h = clash (cc)
 
 pub line-read : (s : List ℕ) (at : ℕ) {m e j a z : ℕ} → Line m e j a z ≡ valuesAt s at → LineAt s at m e j a z
 unfolding valuesAt
-line-read s at {m} {e} {j} {a} {z} h = behind-line (spacedAt s at) _ stations h
-  where
-    limit : (n p d q kind start : ℕ) → SpacedAt s at n p → SpacedAt s p d q → SpacedAt s q kind start → Line m e j a z ≡ limitAt s n d kind start → LineAt s at m e j a z
-    limit n p d q kind start f g i l =
-        let r = limit-read s n d kind start l in
-        rw (r .0, r .1, r .2, r .3) (record { p = p; q = q; first = f; second = g; third = i; last = r .4 })
-
-    kinds : (n p d q : ℕ) → SpacedAt s at n p → SpacedAt s p d q → Line m e j a z ≡ behind (spacedAt s q) (limitAt s n d) → LineAt s at m e j a z
-    kinds n p d q f g l = behind-line (spacedAt s q) (limitAt s n d) (λ kind start i. limit n p d q kind start f g (spaced-read s q kind start i)) l
-
-    holes : (n p : ℕ) → SpacedAt s at n p → Line m e j a z ≡ behind (spacedAt s p) (λ d q. behind (spacedAt s q) (limitAt s n d)) → LineAt s at m e j a z
-    holes n p f l = behind-line (spacedAt s p) (λ d q. behind (spacedAt s q) (limitAt s n d)) (λ d q g. kinds n p d q f (spaced-read s p d q g)) l
-
-    stations : (n p : ℕ) → Number n p ≡ spacedAt s at → Line m e j a z ≡ behind (spacedAt s p) (λ d q. behind (spacedAt s q) (limitAt s n d)) → LineAt s at m e j a z
-    stations n p f l = holes n p (spaced-read s at n p f) l
+line-read s at =
+    behind-spaced s at _
+    (λ n p f.
+    behind-spaced s p _
+    (λ d q g.
+    behind-spaced s q (limitAt s n d)
+    (λ kind start i l.
+    let r = limit-read s n d kind start l in
+    rw (r .0, r .1, r .2, r .3) (record { p = p; q = q; first = f; second = g; third = i; last = r .4 }))))
 
 -- the limit lies within the text, with a byte behind it
 pub line-inside : (s : List ℕ) (at : ℕ) {m e j a z : ℕ} → Line m e j a z ≡ valuesAt s at → a + z < length s

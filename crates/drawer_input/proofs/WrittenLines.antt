@@ -15,17 +15,25 @@ use Rattle.text.specs.Symbols.{symbolOf}
 
 -- what is read at a place, with the limit's start and size
 abbrev pub asked : List ℕ → ℕ → ℕ → ℕ → ℕ → ℕ → Asked
-asked s n d kind start size = record { stations = n; holes = d; kind = kind; limit = map symbolOf (take size (drop start s)) }
+asked s n d kind start size =
+    record { stations = n; holes = d; kind = kind; limit = map symbolOf (take size (drop start s)) }
 
 -- the parts of a line and what follows it
 abbrev parts : ℕ → ℕ → ℕ → List ℕ → List ℕ → List ℕ
-parts n d kind bytes more = decimal n ++ (space ∷ (decimal d ++ (space ∷ (decimal kind ++ (space ∷ (bytes ++ (feed ∷ more)))))))
+parts n d kind bytes more =
+    decimal n ++ (space ∷ (decimal d ++ (space ∷ (decimal kind ++ (space ∷ (bytes ++ (feed ∷ more)))))))
 
-line-parts : (n d kind : ℕ) (bytes more : List ℕ) → (decimal n ++ ascii " " ++ decimal d ++ ascii " " ++ decimal kind ++ ascii " " ++ bytes ++ ascii "\n") ++ more ≡ parts n d kind bytes more
+-- the same line in one
+abbrev lineOf : ℕ → ℕ → ℕ → List ℕ → List ℕ
+lineOf n d kind bytes =
+    decimal n ++ ascii " " ++ decimal d ++ ascii " " ++ decimal kind ++ ascii " " ++ bytes ++ ascii "\n"
+
+line-parts : (n d kind : ℕ) (bytes more : List ℕ) → lineOf n d kind bytes ++ more ≡ parts n d kind bytes more
 unfolding ascii
 line-parts n d kind bytes more = simp append-assoc
 
-line-length : (n d kind : ℕ) (bytes more line : List ℕ) → line ++ more ≡ parts n d kind bytes more → length line ≡ length (decimal n) + 1 + length (decimal d) + 1 + length (decimal kind) + 1 + length bytes + 1
+line-length : (n d kind : ℕ) (bytes more line : List ℕ) → line ++ more ≡ parts n d kind bytes more
+    → length line ≡ length (decimal n) + 1 + length (decimal d) + 1 + length (decimal kind) + 1 + length bytes + 1
 line-length n d kind bytes more line e = omega (arith, simp length-append at (ap length e))
 
 -- a line of values that stands at a place is read there
@@ -36,18 +44,23 @@ pub record Found (s : List ℕ) (at : ℕ) (line : List ℕ) (a : Asked) : Type 
   pub limit : map symbolOf (take size (drop start s)) ≡ a .limit
   pub end : start + size + 1 ≡ at + length line
 
-pub found : (s : List ℕ) (at : ℕ) (line more : List ℕ) (a : Asked) → drop at s ≡ line ++ more → ValueLine line a → Found s at line a
+pub found : (s : List ℕ) (at : ℕ) (line more : List ℕ) (a : Asked) → drop at s ≡ line ++ more → ValueLine line a
+    → Found s at line a
 found s at line more a e v =
     let n = a .stations in
     let d = a .holes in
     let kind = a .kind in
-    let w : line ++ more ≡ parts n d kind (v .bytes) more = ap (λ l. l ++ more) (v .whole) ∙ line-parts n d kind (v .bytes) more in
+    let w = ap (λ l. l ++ more) (v .whole) ∙ line-parts n d kind (v .bytes) more in
     let p = at + length (decimal n) + 1 in
     let first : SpacedAt s at n p = record { below = v .numbers .0; rest = _; whole = e ∙ w; behind = refl } in
     let q = p + length (decimal d) + 1 in
-    let second : SpacedAt s p d q = record { below = v .numbers .1; rest = _; whole = spaced-rest first; behind = refl } in
+    let second : SpacedAt s p d q =
+    record { below = v .numbers .1; rest = _; whole = spaced-rest first; behind = refl }
+    in
     let start = q + length (decimal kind) + 1 in
-    let third : SpacedAt s q kind start = record { below = v .numbers .2; rest = _; whole = spaced-rest second; behind = refl } in
+    let third : SpacedAt s q kind start =
+    record { below = v .numbers .2; rest = _; whole = spaced-rest second; behind = refl }
+    in
     let last : LimitAt s start (length (v .bytes)) =
     record {
       bytes = v .bytes;
@@ -74,11 +87,14 @@ pub record Standing (s : List ℕ) (at : ℕ) (a : Asked) (end : ℕ) : Type 0 w
   pub values : ValueLine line a
   pub behind : end ≡ at + length line
 
-pub standing : {s : List ℕ} {at n d kind start size : ℕ} → LineAt s at n d kind start size → Standing s at (asked s n d kind start size) (start + size + 1)
+pub standing : {s : List ℕ} {at n d kind start size : ℕ} → LineAt s at n d kind start size
+    → Standing s at (asked s n d kind start size) (start + size + 1)
 standing {s} {at} {n} {d} {kind} {start} {size} r =
     let l = r .last in
-    let line = decimal n ++ ascii " " ++ decimal d ++ ascii " " ++ decimal kind ++ ascii " " ++ l .bytes ++ ascii "\n" in
-    let w : drop at s ≡ parts n d kind (l .bytes) (l .more) = cc (spaced-rest (r .first), spaced-rest (r .second), spaced-rest (r .third)) in
+    let line = lineOf n d kind (l .bytes) in
+    let w : drop at s ≡ parts n d kind (l .bytes) (l .more) =
+    cc (spaced-rest (r .first), spaced-rest (r .second), spaced-rest (r .third))
+    in
     record {
       line = line;
       more = l .more;

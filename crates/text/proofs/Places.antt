@@ -37,7 +37,8 @@ module _ (s : List ℕ) (at n next : ℕ) where
       found : List ℕ
       found = run Digits (drop at s)
 
-      go : (t : Bool) → isNumeral found ≡ t → Number n next ≡ cond t (Number (valueFrom 0 found) (at + length found)) NoNumber → NumberAt s at n next
+      go : (t : Bool) → isNumeral found ≡ t
+          → Number n next ≡ cond t (Number (valueFrom 0 found) (at + length found)) NoNumber → NumberAt s at n next
       go true q e =
           let r = run-split Digits (drop at s) in
           let m = numeral-exactly found (every-map (λ b. digit-bytes b .0) found (r .every)) .0 q in
@@ -89,15 +90,17 @@ module _ {s : List ℕ} {at n next : ℕ} (r : SpacedAt s at n next) where
 
   pub spaced-found : Number n next ≡ spacedAt s at
   spaced-found =
-      let there = number-found s at n (at + length (decimal n)) number-there in
-      rw (r .behind) (with-space s at n (at + length (decimal n)) there (rw at-space (→isPrefix (space ∷ []) (r .rest))))
+      let end = at + length (decimal n) in
+      let a-space : isPrefix (space ∷ []) (drop end s) ≡ true = rw at-space (→isPrefix (space ∷ []) (r .rest)) in
+      rw (r .behind) (with-space s at n end (number-found s at n end number-there) a-space)
 
 module _ (s : List ℕ) (at n next : ℕ) where
   pub spaced-read : Number n next ≡ spacedAt s at → SpacedAt s at n next
   unfolding spacedAt
   spaced-read = go (numeralAt s at) refl
     where
-      behind-number : (v p : ℕ) → Number v p ≡ numeralAt s at → (t : Bool) → isPrefix (space ∷ []) (drop p s) ≡ t → Number n next ≡ cond t (Number v (p + 1)) NoNumber → SpacedAt s at n next
+      behind-number : (v p : ℕ) → Number v p ≡ numeralAt s at → (t : Bool) → isPrefix (space ∷ []) (drop p s) ≡ t
+          → Number n next ≡ cond t (Number v (p + 1)) NoNumber → SpacedAt s at n next
       behind-number v p e true q h =
           let r = number-read s at v p e in
           let more = isPrefix→ (space ∷ []) (drop p s) q in
@@ -107,7 +110,12 @@ module _ (s : List ℕ) (at n next : ℕ) where
           let left = drop-on s at (decimal v) (digits .rest) (digits .whole) in
           let rest : digits .rest ≡ space ∷ more .0 = sym left ∙ ap (λ i. drop i s) (sym (r .behind)) ∙ more .1 in
           rw (value, place)
-          (record { below = r .below; rest = more .0; whole = digits .whole ∙ ap (λ l. decimal v ++ l) rest; behind = ap (λ i. i + 1) (r .behind) })
+          (record {
+            below = r .below;
+            rest = more .0;
+            whole = digits .whole ∙ ap (λ l. decimal v ++ l) rest;
+            behind = ap (λ i. i + 1) (r .behind);
+          })
       behind-number v p e false q h = clash (cc)
 
       go : (x : Numeral) → x ≡ numeralAt s at → Number n next ≡ spaced s x → SpacedAt s at n next

@@ -50,7 +50,8 @@ run-split sort (b ∷ s) = go (belongs sort b) refl (run-split sort s)
     go true e r = record { rest = r .rest; whole = ap (λ l. b ∷ l) (r .whole); every = (e, r .every); stops = r .stops }
     go false e r = record { rest = b ∷ s; whole = refl; every = tt; stops = e }
 
-run-front : (sort : Bytes) (front rest : List ℕ) → Every (λ b. belongs sort b ≡ true) front → Stops sort rest → run sort (front ++ rest) ≡ front
+run-front : (sort : Bytes) (front rest : List ℕ) → Every (λ b. belongs sort b ≡ true) front → Stops sort rest
+    → run sort (front ++ rest) ≡ front
 unfolding run
 run-front sort [] [] e h = refl
 run-front sort [] (b ∷ rest) e h = rw h

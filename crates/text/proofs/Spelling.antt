@@ -23,7 +23,8 @@ use Rattle.words.proofs.Induction.{strong}
 -- a law of numbers by their last digit
 module _ (P : ℕ → Type 0) (one : (n : ℕ) → n < 10 → P n) (more : (n : ℕ) → 10 ≤ n → P (n / 10) → P n) where
   pub by-digits : (n : ℕ) → P n
-  by-digits = strong P (λ n ih. ⊎-elim (λ h. more n h (ih (n / 10) (omega (arith, div-add-mod' n 10)))) (one n) (le-or 10 n))
+  by-digits =
+      strong P (λ n ih. ⊎-elim (λ h. more n h (ih (n / 10) (omega (arith, div-add-mod' n 10)))) (one n) (le-or 10 n))
 
 -- ---- values
 
@@ -48,7 +49,9 @@ decimal-value = by-digits (λ n. valueFrom 0 (decimal n) ≡ n) one more
 
     more : (n : ℕ) → 10 ≤ n → valueFrom 0 (decimal (n / 10)) ≡ n / 10 → valueFrom 0 (decimal n) ≡ n
     more n h ih =
-        ap (valueFrom 0) (decimal-more n h) ∙ value-last 0 (decimal (n / 10)) (48 + n % 10) ∙ rw ih (omega (arith, div-add-mod' n 10))
+        ap (valueFrom 0) (decimal-more n h)
+        ∙ value-last 0 (decimal (n / 10)) (48 + n % 10)
+        ∙ rw ih (omega (arith, div-add-mod' n 10))
 
 -- ---- digits
 
@@ -60,7 +63,8 @@ digits = by-digits (λ n. Every IsDigit (decimal n)) one more
 
     more : (n : ℕ) → 10 ≤ n → Every IsDigit (decimal (n / 10)) → Every IsDigit (decimal n)
     more n h ih =
-        subst (Every IsDigit) (sym (decimal-more n h)) (every-append IsDigit (decimal (n / 10)) _ ih ((omega arith, omega (arith, div-add-mod' n 10)), tt))
+        let last : IsDigit (48 + n % 10) = omega (arith, div-add-mod' n 10) in
+        subst (Every IsDigit) (sym (decimal-more n h)) (every-append IsDigit (decimal (n / 10)) _ ih (last, tt))
 
 -- ---- the leading digit
 
@@ -84,7 +88,9 @@ first-digit = by-digits (λ n. 1 ≤ n → NoZeroFirst (decimal n)) one more
     one n h k = subst NoZeroFirst (sym (decimal-one n h)) (λ e. omega arith)
 
     more : (n : ℕ) → 10 ≤ n → (1 ≤ n / 10 → NoZeroFirst (decimal (n / 10))) → 1 ≤ n → NoZeroFirst (decimal n)
-    more n h ih k = subst NoZeroFirst (sym (decimal-more n h)) (first-append (decimal (n / 10)) _ (ih (omega (arith, div-add-mod' n 10))))
+    more n h ih k =
+        let tens = ih (omega (arith, div-add-mod' n 10)) in
+        subst NoZeroFirst (sym (decimal-more n h)) (first-append (decimal (n / 10)) _ tens)
 
 pub decimal-digits : DecimalDigits
 decimal-digits zero = (digits zero, subst NoLeadingZero (sym (decimal-one zero (omega arith))) tt)
