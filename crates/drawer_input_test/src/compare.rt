@@ -13,13 +13,16 @@ fn is_due(r: Request, stations: usize, size: usize, line: usize) -> bool {
     }
 }
 
-fn ask(text: &[u8]) -> Request {
-    let mut limit = [FRESH; 256];
-    drawer_input::read_drawer(text, &mut limit)
-}
-
-// An input with another byte at a place of its names, and the line that is at fault, or 0.
-fn agrees(stations: usize, limit: &[u8], place: usize, byte: u8, line: usize) -> bool
+// An input with another byte at a place of its names, and the line that is at fault, or 0. The limit's symbols are at the
+// front of the lent buffer, where there is no fault, and all else in it is as it was.
+fn agrees(
+    stations: usize,
+    limit: &[u8],
+    symbols: &[u8],
+    place: usize,
+    byte: u8,
+    line: usize,
+) -> bool
     requires { ⌜ place < 26 ⌝ }
 {
     let mut text = [0u8; 8192];
@@ -34,7 +37,15 @@ fn agrees(stations: usize, limit: &[u8], place: usize, byte: u8, line: usize) ->
         limit,
     );
     text[place] = byte;
-    is_due(ask(&text[..n]), stations, limit.len(), line)
+    let mut buffer = [FRESH; 256];
+    let r = drawer_input::read_drawer(&text[..n], &mut buffer);
+    if !is_due(r, stations, limit.len(), line) {
+        return false;
+    }
+    if line != 0 {
+        return test_texts::holds(&buffer, 0, b"");
+    }
+    test_texts::holds(&buffer, limit.len(), symbols)
 }
 
 fn line_if(faulty: bool, line: usize) -> usize
@@ -45,7 +56,7 @@ fn line_if(faulty: bool, line: usize) -> usize
 
 // The number n as the stations: read back below 1000.
 fn number_agrees(n: usize) -> bool {
-    agrees(n, b"111111", 0, b's', line_if(999 < n, 2))
+    agrees(n, b"111111", &[1; 6], 0, b's', line_if(999 < n, 2))
 }
 
 // A limit of so many bytes: 223 of them fill a text of 256 bytes.
@@ -53,13 +64,30 @@ fn length_agrees(size: usize) -> bool
     requires { ⌜ size ≤ 240 ⌝ }
 {
     let ones = [b'1'; 240];
+    let symbols = [1u8; 240];
     let line = line_if(size == 0, 2) + line_if(223 < size, 1);
-    agrees(6, &ones[..size], 0, b's', line)
+    agrees(6, &ones[..size], &symbols[..size], 0, b's', line)
+}
+
+// The symbol that a byte of a limit stands for; 2 is no symbol.
+fn symbol_due(b: u8) -> u8 {
+    match b {
+        b'0' => 0,
+        b'1' => 1,
+        _ => 2,
+    }
 }
 
 // The byte b as the limit.
 fn byte_agrees(b: u8) -> bool {
-    agrees(1, &[b], 0, b's', line_if(b == b'\n' || b == b' ', 2))
+    agrees(
+        1,
+        &[b],
+        &[symbol_due(b)],
+        0,
+        b's',
+        line_if(b == b'\n' || b == b' ', 2),
+    )
 }
 
 // The byte b at a place of the names.
@@ -67,7 +95,7 @@ fn name_agrees(place: usize, b: u8) -> bool
     requires { ⌜ place < 26 ⌝ }
 {
     let names = b"stations holes kind limit\n";
-    agrees(1, b"0", place, b, line_if(names[place] != b, 1))
+    agrees(1, b"0", &[0], place, b, line_if(names[place] != b, 1))
 }
 
 // 1100 numbers, 240 lengths, 256 bytes, and 256 bytes at each of 26 places of the names.

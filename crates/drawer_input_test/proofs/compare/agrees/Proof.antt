@@ -8,8 +8,8 @@ use Rattle.drawer_input_test.proofs.compare.agrees.Tie as tie
 array-share-prefix-text : tie.Need-array-share-prefix-text
 array-share-prefix-text c = simp length-set (omega arith)
 
-slice-aggregate-ask : tie.Need-slice-aggregate-ask
-slice-aggregate-ask c = simp (length-set, length-take) (omega arith)
+slice-aggregate-read-drawer : tie.Need-slice-aggregate-read-drawer
+slice-aggregate-read-drawer c = simp (length-set, length-take) (omega arith)
 
 pub agrees-spec : {M : Type 1} → statement M
 agrees-spec =
@@ -20,7 +20,15 @@ agrees-spec =
     (λ c κs. search needs)
     (λ c. search needs)
     array-share-prefix-text
-    slice-aggregate-ask
+    slice-aggregate-read-drawer
+    (λ c. search needs)
     (λ c κs. search needs)
+    (λ c κs. search needs)
+    (λ c. search needs)
+    (λ c. search needs)
+    (λ c. search needs)
+    (λ c κs. search needs)
+    (λ c. search needs)
+    (λ c. search needs)
     (λ c κs. search needs)
     (λ c. search needs))

@@ -8,6 +8,9 @@ use Rattle.drawer_input_test.proofs.compare.length_agrees.Tie as tie
 slice-aggregate-agrees : tie.Need-slice-aggregate-agrees
 slice-aggregate-agrees c = simp length-take (omega arith)
 
+slice-aggregate-agrees-2 : tie.Need-slice-aggregate-agrees-2
+slice-aggregate-agrees-2 c = simp length-take (omega arith)
+
 pub length-agrees-spec : {M : Type 1} → statement M
 length-agrees-spec =
     tie.close
@@ -17,5 +20,7 @@ length-agrees-spec =
     (λ c. search needs)
     (λ c. search needs)
     slice-aggregate-agrees
+    (λ c. search needs)
+    slice-aggregate-agrees-2
     (λ c κs. search needs)
     (λ c. search needs))
