@@ -101,25 +101,24 @@ read s =
         subst (Read s) (sym (too-many s (w .few) (is-named w) n d kind start size e k))
         (third (record { line = line; more = x ∷ more; asked = _; named = rw (← p) w; values = v; some = omega arith }))
 
+    none : (rest : List ℕ) → Named s rest → NoLine ≡ valuesAt s (length names) → (line more : List ℕ) (a : Asked)
+        → rest ≡ line ++ more → ValueLine line a → ⊥
+    none rest w e line more a p v =
+        let r = found s (length names) line more a (rest-there w ∙ p) v in
+        clash (cc (line-found (r .there)))
+
     lines : (rest : List ℕ) → Named s rest → (v : Values) → v ≡ valuesAt s (length names) → Read s (readDrawer s)
     lines rest w NoLine e =
-        let none : (line more : List ℕ) (a : Asked) → rest ≡ line ++ more → ValueLine line a → ⊥ =
-        λ line more a p v.
-        let r = found s (length names) line more a (rest-there w ∙ p) v in
-        clash (cc (e, line-found (r .there)))
-        in
         subst (Read s) (sym (no-values s (w .few) (is-named w) e))
-        (second (record { rest = rest; named = w; none = none }))
+        (second (record { rest = rest; named = w; none = none rest w e }))
     lines rest w (Line n d kind start size) e =
         let r = standing (line-read s (length names) e) in
         ended n d kind start size rest w e (r .line) (r .more) (sym (rest-there w) ∙ r .whole) (r .values) (r .behind)
 
     named : length s ≤ mostBytes → (t : Bool) → isPrefix names s ≡ t → Read s (readDrawer s)
     named h false n =
-        let other : (rest : List ℕ) → s ≡ namesLine ++ rest → ⊥ =
-        λ rest e. false≢true (sym n ∙ is-named (record { few = h; whole = e }))
-        in
-        subst (Read s) (sym (misnamed s h n)) (first (inr other))
+        subst (Read s) (sym (misnamed s h n))
+        (first (inr (λ rest e. false≢true (sym n ∙ is-named (record { few = h; whole = e })))))
     named h true n =
         let r = isPrefix→ names s n in
         let w : Named s (r .0) = record { few = h; whole = r .1 ∙ ap (λ l. l ++ r .0) names-line } in

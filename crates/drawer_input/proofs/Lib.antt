@@ -6,5 +6,5 @@ pub mod WrittenLines
 pub mod Inputs
 -- what is claimed in specs/
 pub mod Claims
--- document 01's example
+-- document 01's example, and texts at the edges
 pub mod Examples

@@ -1,7 +1,7 @@
 -- A line of values: its numbers, the limit, and what stands behind the limit.
 use mathlib.Core.Bool.{Bool, cond, false, not, true, _&&_}
 use mathlib.Core.List.{List, [], _++_, _∷_}
-use mathlib.Core.Path.{ap, refl, sym, _∙_, _≡_}
+use mathlib.Core.Path.{ap, refl, subst, sym, _∙_, _≡_}
 use Prim.Native.Nat.{ℕ, _+_, _<_, _≤_}
 use native.Mathlib.Omega.{arith}
 use lib.Dec.{eqb}
@@ -67,6 +67,11 @@ pub record LimitAt (s : List ℕ) (at size : ℕ) : Type 0 where
   pub unspaced : Every IsUnspaced bytes
   pub long : size ≡ length bytes
 
+abbrev pub limit-here : (s : List ℕ) (at : ℕ) (bytes more : List ℕ) → 1 ≤ length bytes → Every IsUnspaced bytes
+    → drop at s ≡ bytes ++ (feed ∷ more) → LimitAt s at (length bytes)
+limit-here s at bytes more h u e =
+    record { bytes = bytes; more = more; whole = e; some = h; unspaced = u; long = refl }
+
 module _ {s : List ℕ} {at size : ℕ} (r : LimitAt s at size) where
   limit-split : Split Unspaced (drop at s) (r .bytes)
   unfolding belongs
@@ -124,17 +129,10 @@ module _ (s : List ℕ) (n d k at : ℕ) {m e j a z : ℕ} where
           let more = isPrefix→ (feed ∷ []) (drop (at + size) s) (tests .1) in
           let some = eqb-false size 0 (not-true _ (tests .0)) in
           let end : r .rest ≡ feed ∷ more .0 = sym (drop-on s at bytes (r .rest) (r .whole)) ∙ more .1 in
-          let there : LimitAt s at z =
-          record {
-            bytes = bytes;
-            more = more .0;
-            whole = r .whole ∙ ap (λ l. bytes ++ l) end;
-            some = omega arith;
-            unspaced = every-map (λ b. unspaced-bytes b .0) bytes (r .every);
-            long = cc;
-          }
-          in
-          (cc, cc, cc, cc, there)
+          let unspaced = every-map (λ b. unspaced-bytes b .0) bytes (r .every) in
+          let there = limit-here s at bytes (more .0) (omega arith) unspaced (r .whole ∙ ap (λ l. bytes ++ l) end) in
+          let long : size ≡ z = cc in
+          (cc, cc, cc, cc, subst (LimitAt s at) long there)
       go false q h = clash (cc)
 
 behind-spaced : {P : Type 0} {m e j a z : ℕ} (s : List ℕ) (at : ℕ) (f : ℕ → ℕ → Values)

@@ -4,10 +4,10 @@ use mathlib.Core.Path.{ap, refl, sym, _∙_, _≡_}
 use Prim.Native.Nat.{ℕ, _+_}
 use native.Mathlib.Omega.{arith}
 use lib.ListN.{drop, length, length-append, take}
-use Rattle.drawer_input.proofs.ValueLines.{LimitAt, LineAt, limit-bytes}
+use Rattle.drawer_input.proofs.ValueLines.{LineAt, limit-bytes, limit-here}
 use Rattle.drawer_input.specs.Claims.{ValueLine}
 use Rattle.drawer_input.specs.Input.{Asked}
-use Rattle.text.proofs.Places.{SpacedAt, spaced-rest}
+use Rattle.text.proofs.Places.{spaced-here, spaced-rest}
 use Rattle.text.specs.Ascii.{ascii}
 use Rattle.text.specs.Decimals.{decimal}
 use Rattle.text.specs.Parts.{feed, space}
@@ -23,7 +23,7 @@ abbrev parts : ℕ → ℕ → ℕ → List ℕ → List ℕ → List ℕ
 parts n d kind bytes more =
     decimal n ++ (space ∷ (decimal d ++ (space ∷ (decimal kind ++ (space ∷ (bytes ++ (feed ∷ more)))))))
 
--- the same line in one
+-- the line as it is written
 abbrev lineOf : ℕ → ℕ → ℕ → List ℕ → List ℕ
 lineOf n d kind bytes =
     decimal n ++ ascii " " ++ decimal d ++ ascii " " ++ decimal kind ++ ascii " " ++ bytes ++ ascii "\n"
@@ -52,25 +52,12 @@ found s at line more a e v =
     let kind = a .kind in
     let w = ap (λ l. l ++ more) (v .whole) ∙ line-parts n d kind (v .bytes) more in
     let p = at + length (decimal n) + 1 in
-    let first : SpacedAt s at n p = record { below = v .numbers .0; rest = _; whole = e ∙ w; behind = refl } in
+    let first = spaced-here s at n _ (v .numbers .0) (e ∙ w) in
     let q = p + length (decimal d) + 1 in
-    let second : SpacedAt s p d q =
-    record { below = v .numbers .1; rest = _; whole = spaced-rest first; behind = refl }
-    in
+    let second = spaced-here s p d _ (v .numbers .1) (spaced-rest first) in
     let start = q + length (decimal kind) + 1 in
-    let third : SpacedAt s q kind start =
-    record { below = v .numbers .2; rest = _; whole = spaced-rest second; behind = refl }
-    in
-    let last : LimitAt s start (length (v .bytes)) =
-    record {
-      bytes = v .bytes;
-      more = more;
-      whole = spaced-rest third;
-      some = v .some;
-      unspaced = v .unspaced;
-      long = refl;
-    }
-    in
+    let third = spaced-here s q kind _ (v .numbers .2) (spaced-rest second) in
+    let last = limit-here s start (v .bytes) more (v .some) (v .unspaced) (spaced-rest third) in
     record {
       start = start;
       size = length (v .bytes);
@@ -92,9 +79,10 @@ pub standing : {s : List ℕ} {at n d kind start size : ℕ} → LineAt s at n d
 standing {s} {at} {n} {d} {kind} {start} {size} r =
     let l = r .last in
     let line = lineOf n d kind (l .bytes) in
-    let w : drop at s ≡ parts n d kind (l .bytes) (l .more) =
-    cc (spaced-rest (r .first), spaced-rest (r .second), spaced-rest (r .third))
-    in
+    let f = spaced-rest (r .first) in
+    let g = spaced-rest (r .second) in
+    let h = spaced-rest (r .third) in
+    let w : drop at s ≡ parts n d kind (l .bytes) (l .more) = cc in
     record {
       line = line;
       more = l .more;

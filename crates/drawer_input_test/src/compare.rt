@@ -13,8 +13,8 @@ fn is_due(r: Request, stations: usize, size: usize, line: usize) -> bool {
     }
 }
 
-// An input with another byte at a place of its names, and the line that is at fault, or 0. The limit's symbols are at the
-// front of the lent buffer, where there is no fault, and all else in it is as it was.
+// An input with another byte at a place of its names, and the line at fault, or 0. Where no line is, the limit's
+// symbols are at the front of the lent buffer; all else in it is as it was.
 fn agrees(
     stations: usize,
     limit: &[u8],

@@ -66,6 +66,10 @@ pub record SpacedAt (s : List ℕ) (at n next : ℕ) : Type 0 where
   pub whole : drop at s ≡ decimal n ++ (space ∷ rest)
   pub behind : next ≡ at + length (decimal n) + 1
 
+abbrev pub spaced-here : (s : List ℕ) (at n : ℕ) (rest : List ℕ) → n < 1000 → drop at s ≡ decimal n ++ (space ∷ rest)
+    → SpacedAt s at n (at + length (decimal n) + 1)
+spaced-here s at n rest h e = record { below = h; rest = rest; whole = e; behind = refl }
+
 module _ {s : List ℕ} {at n next : ℕ} (r : SpacedAt s at n next) where
   at-space : drop (at + length (decimal n)) s ≡ space ∷ r .rest
   at-space = drop-on s at (decimal n) (space ∷ r .rest) (r .whole)
