@@ -7,17 +7,19 @@ use Prim.Native.Nat.{ℕ, _+_, _≤_}
 use native.Mathlib.Omega.{arith}
 use lib.ListN.{drop, length, length-append}
 use lib.Seq.{drop-append-seam}
+use borrow.Author.Tests.{le-leb, lt-leb}
 use Rattle.drawer_input.proofs.Inputs.{all-read, misnamed, no-values, over-long, too-many}
 use Rattle.drawer_input.proofs.ValueLines.{line-found, line-read}
 use Rattle.drawer_input.proofs.WrittenLines.{asked, found, standing}
-use Rattle.drawer_input.specs.Claims.{FirstExactly, FirstFaulty, Named, NoOther, SecondExactly, SecondFaulty}
+use Rattle.drawer_input.specs.Claims.{FirstExactly, FirstFaulty, LimitWritten, Named, NoOther, SecondExactly, SecondFaulty}
 use Rattle.drawer_input.specs.Claims.{Taken, TakenExactly, ThirdExactly, ThirdFaulty, ValueLine, namesLine}
 use Rattle.drawer_input.specs.Input.{Asked, mostBytes, names, readDrawer, valuesAt}
 use Rattle.drawer_input.specs.declared.Values.{Values}
 use Rattle.drawer_input.specs.declared.Values.the-variants.{Line, NoLine}
+use Rattle.refusal.proofs.Claims.{buffer-filled}
 use Rattle.refusal.specs.Outcomes.{Outcome, given, refused}
 use Rattle.refusal.specs.declared.Refusal.{Refusal}
-use Rattle.refusal.specs.declared.Refusal.the-variants.{Text}
+use Rattle.refusal.specs.declared.Refusal.the-variants.{Buffer, Text}
 use Rattle.text.specs.Ascii.{ascii}
 use Rattle.words.proofs.Below.{le-or}
 use Rattle.words.proofs.Booleans.{clash, never}
@@ -157,3 +159,10 @@ third-exactly s = (λ e. is-third (subst (Read s) e (read s)), →third s)
 
 pub no-other : NoOther
 no-other s r e = is-refused (subst (Read s) e (read s))
+
+pub limit-written : LimitWritten
+limit-written s out = (
+  λ r e. rw e,
+  λ a e h. let b = buffer-filled (a .limit) out Buffer h in rw (e, le-leb (length (a .limit)) (length out) h) (b .0, b .1),
+  λ a e h. rw (e, lt-leb (length (a .limit)) (length out) h),
+)

@@ -3,14 +3,14 @@ use mathlib.Core.List.{List, map, _++_}
 use mathlib.Core.Logic.{_↔_, _⊎_}
 use mathlib.Core.Path.{_≡_}
 use Prim.Native.Nat.{ℕ, _≤_, _<_}
-use lib.ListN.{length}
+use lib.ListN.{drop, length, take}
 use Rattle.refusal.specs.Outcomes.{given, refused}
 use Rattle.refusal.specs.declared.Refusal.{Refusal}
 use Rattle.refusal.specs.declared.Refusal.the-variants.{Text}
 use Rattle.text.specs.Ascii.{Every, IsUnspaced, ascii}
 use Rattle.text.specs.Decimals.{decimal}
 use Rattle.text.specs.Symbols.{symbolOf}
-use Rattle.drawer_input.specs.Input.{Asked, readDrawer}
+use Rattle.drawer_input.specs.Input.{Asked, limitFilled, readDrawer}
 
 -- "the names `stations holes kind limit`", "ended by a line feed"
 abbrev pub namesLine : List ℕ
@@ -78,3 +78,14 @@ ThirdExactly = (s : List ℕ) → (readDrawer s ≡ refused (Text 3)) ↔ ThirdF
 -- no other refusal, and no other line
 abbrev pub NoOther : Type 0
 NoOther = (s : List ℕ) (r : Refusal) → readDrawer s ≡ refused r → (r ≡ Text 1) ⊎ ((r ≡ Text 2) ⊎ (r ≡ Text 3))
+
+-- ---- the buffer that is lent for the limit
+
+-- The limit's symbols fill its front and the rest stays; where the text is refused, or the limit doesn't fit, all of it stays.
+abbrev pub LimitWritten : Type 0
+LimitWritten =
+    (s out : List ℕ) → let after = limitFilled (readDrawer s) out in
+    ((r : Refusal) → readDrawer s ≡ refused r → after ≡ out)
+    × ((a : Asked) → readDrawer s ≡ given a → length (a .limit) ≤ length out
+    → (take (length (a .limit)) after ≡ a .limit) × (drop (length (a .limit)) after ≡ drop (length (a .limit)) out))
+    × ((a : Asked) → readDrawer s ≡ given a → length out < length (a .limit) → after ≡ out)

@@ -144,4 +144,5 @@ answers =
     ∷ fetch 8 (BinderAnswer.Refused refusals.Name)
     ∷ read "stations holes kind limit\n6 3 1 111111\n" 6 (Request.Drawer 6 3 1 6)
     ∷ read "stations holes kind limit\n6 3 1 111111\n" 5 (Request.Refused refusals.Buffer)
+    ∷ read "stations holes kind limit\n" 6 (Request.Refused (refusals.Text 2))
     ∷ []
