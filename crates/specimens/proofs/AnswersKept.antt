@@ -29,5 +29,11 @@ use Rattle.words.specs.Symbols.{allUpTo, firstWhere, firstWrong, sum}
 use Rattle.words.specs.Tests.{allBelow, any, firstFrom, isPrefix, keep, someBelow}
 
 pub answers-keep : Keep answers
-unfolding answers ascii keyVerdict classVerdict ringVerdict questionVerdict rowVerdict listVerdict waysVerdict rankVerdict unrankVerdict openVerdict putVerdict fetchVerdict areStations isKind isCounted firstWrong firstWhere firstZero addsUp hasPitchList endsInOne pitchesFrom pitchesOfRow sum cmp le lt same allBelow someBelow firstFrom keep any isPrefix rotation isNecklace isLyndon period isLeastAt leastIndex leastRotation lowerOf turnedKey isBracelet rotatesTo oneRing density allRows isNecklaceOf necklaces begins ofKind rank drawerLength choose freshBinder under fit fitAt fitSizes isPadded allUpTo readDrawer valuesAt limitAt spacedAt numeralAt isNumeral valueFrom run belongs
+unfolding answers ascii keyVerdict classVerdict ringVerdict questionVerdict rowVerdict listVerdict waysVerdict
+    rankVerdict unrankVerdict openVerdict putVerdict fetchVerdict areStations isKind isCounted firstWrong firstWhere
+    firstZero addsUp hasPitchList endsInOne pitchesFrom pitchesOfRow sum cmp le lt same allBelow someBelow firstFrom
+    keep any isPrefix rotation isNecklace isLyndon period isLeastAt leastIndex leastRotation lowerOf turnedKey
+    isBracelet rotatesTo oneRing density allRows isNecklaceOf necklaces begins ofKind rank drawerLength choose
+    freshBinder under fit fitAt fitSizes isPadded allUpTo readDrawer valuesAt limitAt spacedAt numeralAt isNumeral
+    valueFrom run belongs
 answers-keep = (refl, (refl, (refl, (refl, (refl, (refl, (refl, (refl, (refl, (refl, (refl, (refl, (refl, (refl, (refl, (refl, (refl, (refl, (refl, (refl, (refl, (refl, (refl, (refl, (refl, (refl, (refl, (refl, (refl, (refl, (refl, (refl, (refl, (refl, (refl, (refl, (refl, (refl, (refl, (refl, (refl, (refl, (refl, tt)))))))))))))))))))))))))))))))))))))))))))

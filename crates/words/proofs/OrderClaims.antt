@@ -1,12 +1,12 @@
 -- The claims on the order of rows hold.
-use mathlib.Core.List.{List, [], _++_, _∷_}
+use mathlib.Core.List.{List, [], _∷_}
 use mathlib.Core.Logic.{inl, inr, _⊎_}
 use mathlib.Core.Path.{ap, refl, _≡_}
 use Prim.Native.Nat.{ℕ}
 use Rattle.words.proofs.AtMost.{equal, lower, _≼_}
 use Rattle.words.proofs.Below.{cmp-eq, cmp-gt, cmp-is, cmp-lt, here, is-eq, is-gt, is-lt, longer, short, there, ≺-under, _≺_}
 use Rattle.words.proofs.OrderTests.{le→, lt→, order-equal, order-higher, order-lower, same→, →le, →lt, →same}
-use Rattle.words.specs.Claims.{DictionaryOrder, LiesBelow, LowerSymbol, OrderTests}
+use Rattle.words.specs.Claims.{DictionaryOrder, LiesBelow, OrderTests}
 use Rattle.words.specs.Order.{cmp, orderOf}
 
 below→ : {a b : List ℕ} → a ≺ b → LiesBelow a b

@@ -1,13 +1,12 @@
 -- `drawer_program::hand_on` meets its contract: each piece takes from what is left to print, and leaves less.
 use mathlib.Core.Bool.{false, false≢true, true}
 use mathlib.Core.List.{List, [], append-nil, _++_}
-use mathlib.Core.Path.{ap, refl, sym, _∙_, _≡_}
+use mathlib.Core.Path.{ap, sym, _∙_, _≡_}
 use Prim.Native.Nat.{ℕ, _≤_}
 use native.Mathlib.Omega.{arith}
 use lib.ListN.{length, take}
 use lib.Seq.{length-take-le}
 use borrow.Author.Needs.{needs}
-use Rattle.drawer_program.specs.HandedOn.{HandedOn}
 use Rattle.printing.proofs.Claims.{handed-left, less-left}
 use Rattle.printing.specs.Left.{left}
 use Rattle.printing.specs.Pieces.{Fills, HandedOut, nothing, piece}
