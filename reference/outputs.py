@@ -14,9 +14,9 @@ from rings import (
     drawer,
     fetch,
     first_difference,
+    fitting,
     key,
     of_kind,
-    one_ring,
     open_refusal,
     opened,
     padded,
@@ -34,6 +34,7 @@ from rings import (
     stations,
     top,
     total,
+    turn,
     turned_key,
     ways,
     without_symmetry,
@@ -201,39 +202,58 @@ def show_turned_key(digits, room):
     print(*([refused(*no), "as before 80"] if no else [text(turned_key(row)), "as before", 80 - n]))
 
 
-def ring_refusal(row, other):
-    return refusal((1, not stations(len(row))), (4, len(other) != len(row)), (3, wrong(row)), (3, wrong(other)))
-
-
-def show_ring(digits, others):
-    row, other = symbols(digits), symbols(others)
-    no = ring_refusal(row, other)
-    print(f"one ring of {len(row)} stations {digits} and {others}:", refused(*no) if no else said(one_ring(row, other)))
-
-
-def show_pairs(name, alphabet, longest):
-    """All pairs of rows of such symbols."""
-    rows = [row for n in range(longest + 1) for row in product(alphabet, repeat=n)]
-    told = [ring_refusal(*pair) or (said(one_ring(*pair)), 0) for pair in product(rows, repeat=2)]
-    answers = [answer for answer, _ in told]
-    print(f"pairs of rows of {name}: compared {len(told)} agreed {len(told)}", end=" ")
-    print(*(f"{answer} {answers.count(answer)}" for answer in ("yes", "no")), end=" ")
-    print("refused", *(f"{number} {answers.count(number)}" for number in (1, 4, 3)), end=" ")
-    print("places", sum(place for _, place in told))
-
-
 def bracelet_test():
     for line in lines("bracelet_test"):
         word = line.split(" ")
-        if word[0] == "turned":
-            show_turned_key(word[5], int(word[7]))
-        else:
-            show_ring(word[5], word[7])
+        show_turned_key(word[5], int(word[7]))
     rows = len(rows_to_10())
     for name in ("turned key", "turned key of longer rows"):
         print(name, "compared", rows, "agreed", rows)
-    show_pairs("up to 8 stations", (0, 1), 8)
-    show_pairs("up to 6 stations, with wrong bytes", (0, 1, 2), 6)
+
+
+# ---- coated_test
+
+
+def fit_refusal(row, other):
+    return refusal((1, not stations(len(row))), (4, len(other) != len(row)), (3, wrong(row)), (3, wrong(other)))
+
+
+def show_fit(digits, others):
+    row, other = symbols(digits), symbols(others)
+    no = fit_refusal(row, other)
+    print(f"fit of {len(row)} stations {digits} and {others}:", *([refused(*no)] if no else fitting(row, other)))
+
+
+def show_fits(name, pairs):
+    told = [fit_refusal(*pair) or fitting(*pair) for pair in pairs]
+    answers = [answer for answer, _ in told]
+    print(f"{name}: compared {len(told)} agreed {len(told)}", end=" ")
+    print(*(f"{answer} {answers.count(answer)}" for answer in ("different", "turning", "over", "both")), end=" ")
+    print("turns below zero", sum(size < 0 for _, size in told), end=" ")
+    print("refused", *(f"{number} {answers.count(number)}" for number in (1, 4, 3)), end=" ")
+    print("places and amounts", sum(abs(size) for _, size in told))
+
+
+def all_pairs(alphabet, longest):
+    rows = [row for n in range(longest + 1) for row in product(alphabet, repeat=n)]
+    return product(rows, repeat=2)
+
+
+def longer_pair(number):
+    """A row of up to 10 symbols, repeated to 11 to 64, and its turn, or its reverse's; in each fourth pair a symbol is changed."""
+    n = 11 + number % 54
+    row = ((symbols(f"{number:b}"[1:]) or (0,)) * n)[:n]
+    other = turn(row if number % 4 < 2 else row[::-1], number // 4 % n)
+    return row, (1 - other[0],) + other[1:] if number % 4 == 1 else other
+
+
+def coated_test():
+    for line in lines("coated_test"):
+        word = line.split(" ")
+        show_fit(word[4], word[6])
+    show_fits("pairs of rows of up to 8 stations", all_pairs((0, 1), 8))
+    show_fits("pairs of rows of up to 6 stations, with wrong bytes", all_pairs((0, 1, 2), 6))
+    show_fits("longer rows and turns", map(longer_pair, range(2048)))
 
 
 # ---- pitches_test

@@ -53,9 +53,19 @@ def turned_key(row):
     return min(fittings(row))
 
 
-def one_ring(row, other):
-    """Turning over allowed."""
-    return other in fittings(row)
+def nearest_turn(row, other):
+    """The signed turn from one row to the other, the nearest to zero, the positive one of two; None where there is none."""
+    n = len(row)
+    turns = [s for s in range(-n, n + 1) if turn(row, s % n) == other]
+    return min(turns, key=lambda s: (abs(s), s < 0), default=None)
+
+
+def fitting(row, other):
+    """How a row fits another, and the signed turn."""
+    plain, over = nearest_turn(row, other), nearest_turn(row[::-1], other)
+    if plain is None:
+        return ("different", 0) if over is None else ("over", over)
+    return ("turning" if over is None else "both", plain)
 
 
 def of_kind(kind, row):

@@ -3,5 +3,3 @@ pub mod Parts
 pub mod Against
 -- what each answer gives
 pub mod Answers
--- what is claimed in specs/
-pub mod Claims

@@ -1,3 +1,2 @@
 -- Rings that may be turned over: the answers. What they are stands in words/specs/Reversal.antt.
 pub mod Answers
-pub mod Claims

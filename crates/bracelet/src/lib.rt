@@ -1,23 +1,17 @@
-// Rings that may be turned over: the turned-over key of a row, and whether two rows are one ring.
+// Rings that may be turned over: the turned-over key of a row.
 use necklace::KeyAnswer;
 use refusal::Refusal;
 ghost use mathlib.Core.Path.{_≡_};
 ghost use lib.ListN.{length};
-ghost use Rattle.words.specs.Reversal.{oneRing, turnedKey};
+ghost use Rattle.words.specs.Reversal.{turnedKey};
 ghost use Rattle.refusal.specs.Outcomes.{decide, filled};
 ghost use Rattle.necklace.specs.Key.{keyVerdict};
-ghost use Rattle.bracelet.specs.Answers.{ringOutcome, ringVerdict, turnedOutcome};
+ghost use Rattle.bracelet.specs.Answers.{turnedOutcome};
 
 pub mod inner;
 
 pub enum TurnedAnswer {
     Written,
-    Refused(Refusal),
-}
-
-pub enum RingAnswer {
-    // whether the rows are one ring
-    Answered(bool),
     Refused(Refusal),
 }
 
@@ -41,29 +35,4 @@ pub fn turned_key(row: &[u8], out: &mut [u8]) -> TurnedAnswer
     let index = least.index;
     necklace::inner::write_rotation(over, index, out);
     TurnedAnswer::Written
-}
-
-// Whether two rows are one ring, turning over allowed: whether they have one turned-over key.
-pub fn one_ring(row: &[u8], other: &[u8]) -> RingAnswer
-    ensures { λ r. ⌜ ringOutcome r ≡ decide (ringVerdict (now (row .entry)) (now (other .entry))) (oneRing (now (row .entry)) (now (other .entry))) ⌝ }
-{
-    let n = row.len();
-    if !refusal::are_stations(n) {
-        return RingAnswer::Refused(Refusal::Stations);
-    }
-    if other.len() != n {
-        return RingAnswer::Refused(Refusal::Limit);
-    }
-    let mut key = [0u8; refusal::MOST_STATIONS];
-    let first = turned_key(row, &mut key);
-    if let TurnedAnswer::Refused(r) = first {
-        return RingAnswer::Refused(r);
-    }
-    let mut other_key = [0u8; refusal::MOST_STATIONS];
-    let second = turned_key(other, &mut other_key);
-    if let TurnedAnswer::Refused(r) = second {
-        return RingAnswer::Refused(r);
-    }
-    let compared = words::compare(&key[..n], &other_key[..n]);
-    RingAnswer::Answered(compared.place == 0)
 }

@@ -1,4 +1,4 @@
-// The turned-over key and the question on two rows: specimens, refusals in their order, short rows and pairs of them against plain search.
+// The turned-over key: specimens, refusals in their order, and short rows against plain search.
 mod all_rows;
 mod single;
 

@@ -1,7 +1,8 @@
 -- Every answer of the list keeps its promise, by computation.
 use mathlib.Core.Path.{refl}
 use Rattle.binder.specs.Names.{fetchVerdict, freshBinder, putVerdict, under}
-use Rattle.bracelet.specs.Answers.{ringVerdict}
+use Rattle.coated.specs.Answers.{fitVerdict}
+use Rattle.coated.specs.Fitting.{fitOf, nearestAmount, nearestTurn, rotatesTo}
 use Rattle.density.specs.Choose.{choose}
 use Rattle.density.specs.Density.{allRows, density}
 use Rattle.density.specs.Drawers.{openVerdict}
@@ -23,17 +24,17 @@ use Rattle.text.specs.Ascii.{ascii}
 use Rattle.text.specs.Parts.{belongs, isNumeral, numeralAt, run, spacedAt, valueFrom}
 use Rattle.walk.specs.Fit.{fit, fitAt, fitSizes}
 use Rattle.words.specs.Order.{cmp, le, lt, same}
-use Rattle.words.specs.Reversal.{isBracelet, lowerOf, oneRing, rotatesTo, turnedKey}
+use Rattle.words.specs.Reversal.{isBracelet, lowerOf, turnedKey}
 use Rattle.words.specs.Rotation.{isLeastAt, isLyndon, isNecklace, leastIndex, leastRotation, period, rotation}
 use Rattle.words.specs.Symbols.{allUpTo, firstWhere, firstWrong, sum}
 use Rattle.words.specs.Tests.{allBelow, any, firstFrom, isPrefix, keep, someBelow}
 
 pub answers-keep : Keep answers
-unfolding answers ascii keyVerdict classVerdict ringVerdict questionVerdict rowVerdict listVerdict waysVerdict
+unfolding answers ascii keyVerdict classVerdict fitVerdict questionVerdict rowVerdict listVerdict waysVerdict
     rankVerdict unrankVerdict openVerdict putVerdict fetchVerdict areStations isKind isCounted firstWrong firstWhere
     firstZero addsUp hasPitchList endsInOne pitchesFrom pitchesOfRow sum cmp le lt same allBelow someBelow firstFrom
     keep any isPrefix rotation isNecklace isLyndon period isLeastAt leastIndex leastRotation lowerOf turnedKey
-    isBracelet rotatesTo oneRing density allRows isNecklaceOf necklaces begins ofKind rank drawerLength choose
-    freshBinder under fit fitAt fitSizes isPadded allUpTo readDrawer valuesAt limitAt spacedAt numeralAt isNumeral
-    valueFrom run belongs
-answers-keep = (refl, (refl, (refl, (refl, (refl, (refl, (refl, (refl, (refl, (refl, (refl, (refl, (refl, (refl, (refl, (refl, (refl, (refl, (refl, (refl, (refl, (refl, (refl, (refl, (refl, (refl, (refl, (refl, (refl, (refl, (refl, (refl, (refl, (refl, (refl, (refl, (refl, (refl, (refl, (refl, (refl, (refl, (refl, tt)))))))))))))))))))))))))))))))))))))))))))
+    isBracelet rotatesTo nearestAmount nearestTurn fitOf density allRows isNecklaceOf necklaces begins ofKind rank
+    drawerLength choose freshBinder under fit fitAt fitSizes isPadded allUpTo readDrawer valuesAt limitAt spacedAt
+    numeralAt isNumeral valueFrom run belongs
+answers-keep = (refl, (refl, (refl, (refl, (refl, (refl, (refl, (refl, (refl, (refl, (refl, (refl, (refl, (refl, (refl, (refl, (refl, (refl, (refl, (refl, (refl, (refl, (refl, (refl, (refl, (refl, (refl, (refl, (refl, (refl, (refl, (refl, (refl, (refl, (refl, (refl, (refl, (refl, (refl, (refl, (refl, (refl, (refl, (refl, (refl, tt)))))))))))))))))))))))))))))))))))))))))))))

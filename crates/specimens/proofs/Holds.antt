@@ -3,6 +3,7 @@ use mathlib.Core.List.{headD}
 use mathlib.Core.Path.{refl}
 use Rattle.binder.specs.Calls.{callAnswers}
 use Rattle.binder.specs.Names.{fetchVerdict, freshBinder, putVerdict, under}
+use Rattle.coated.specs.Fitting.{fitOf, nearestAmount, nearestTurn, rotatesTo}
 use Rattle.density.specs.Choose.{choose}
 use Rattle.density.specs.Density.{allRows, density}
 use Rattle.density.specs.Lengths.{drawerLength}
@@ -20,11 +21,16 @@ use Rattle.walk.specs.Step.{enough, run, stepOf, walkPlaced}
 use Rattle.words.specs.Difference.{firstDifference}
 use Rattle.words.specs.Order.{cmp, le, lt, same}
 use Rattle.words.specs.Pairs.{cut, pairs, upToUnequal}
-use Rattle.words.specs.Reversal.{isBracelet, lowerOf, oneRing, rotatesTo, turnedKey}
+use Rattle.words.specs.Reversal.{isBracelet, lowerOf, turnedKey}
 use Rattle.words.specs.Rotation.{isLeastAt, isLyndon, isNecklace, leastIndex, leastRotation, period, rotation}
 use Rattle.words.specs.Symbols.{allUpTo, firstWhere, firstWrong}
 use Rattle.words.specs.Tests.{allBelow, any, firstFrom, isPrefix, keep, someBelow}
 
 pub starred-hold : Say starred
-unfolding starred records ascii openVerdict areStations firstWrong firstWhere firstDifference cmp le lt same pairs cut upToUnequal allBelow someBelow firstFrom keep any isPrefix rotation isNecklace period isLeastAt leastIndex leastRotation lowerOf turnedKey isBracelet rotatesTo oneRing density allRows isNecklaceOf necklaces headD largestNecklace begins pitchesFrom pitchesOfRow walkPlaced stepOf fit fitAt fitSizes isPadded allUpTo run enough moveAt isKind ofKind isLyndon rank necklacesOfKind necklaceAt drawerLength choose callAnswers putVerdict fetchVerdict under freshBinder
-starred-hold = ((refl, refl, refl), ((refl, refl, refl), (refl, (refl, (refl, (refl, (refl, ((refl, refl, refl), ((refl, refl, refl), ((refl, refl, refl), (refl, (refl, (refl, (refl, (refl, (refl, (refl, (refl, (refl, (refl, (refl, (refl, (refl, (refl, (refl, (refl, (refl, (refl, (refl, (refl, (refl, (refl, (refl, (refl, tt))))))))))))))))))))))))))))))))))
+unfolding starred records ascii openVerdict areStations firstWrong firstWhere firstDifference cmp le lt same pairs cut
+    upToUnequal allBelow someBelow firstFrom keep any isPrefix rotation isNecklace period isLeastAt leastIndex
+    leastRotation lowerOf turnedKey isBracelet rotatesTo nearestAmount nearestTurn fitOf density allRows isNecklaceOf
+    necklaces headD largestNecklace begins pitchesFrom pitchesOfRow walkPlaced stepOf fit fitAt fitSizes isPadded
+    allUpTo run enough moveAt isKind ofKind isLyndon rank necklacesOfKind necklaceAt drawerLength choose callAnswers
+    putVerdict fetchVerdict under freshBinder
+starred-hold = ((refl, refl, refl), ((refl, refl, refl), (refl, (refl, (refl, (refl, (refl, ((refl, refl, refl), ((refl, refl, refl), ((refl, refl, refl), (refl, (refl, (refl, (refl, (refl, (refl, (refl, (refl, (refl, (refl, (refl, (refl, (refl, (refl, (refl, (refl, (refl, (refl, (refl, (refl, (refl, (refl, (refl, (refl, (refl, (refl, (refl, (refl, (refl, tt)))))))))))))))))))))))))))))))))))))))

@@ -5,12 +5,15 @@ use mathlib.Core.List.{List, [], _∷_}
 use mathlib.Core.Path.{_≡_}
 use Prim.Native.Nat.{ℕ}
 use Prim.Native.String.{String}
+use lib.IntN.{negℤ, pos}
 use lib.ListN.{length}
 use Rattle.binder.specs.Names.{binderOutcome, fetchVerdict, freshBinder, putVerdict}
 use Rattle.binder.specs.declared.BinderAnswer.{BinderAnswer}
-use Rattle.bracelet.specs.Answers.{ringOutcome, ringVerdict, turnedOutcome}
-use Rattle.bracelet.specs.declared.RingAnswer.{RingAnswer}
+use Rattle.bracelet.specs.Answers.{turnedOutcome}
 use Rattle.bracelet.specs.declared.TurnedAnswer.{TurnedAnswer}
+use Rattle.coated.specs.Answers.{fitOutcome, fitVerdict}
+use Rattle.coated.specs.Fitting.{fitOf}
+use Rattle.coated.specs.declared.FitAnswer.{FitAnswer}
 use Rattle.density.specs.Choose.{choose}
 use Rattle.density.specs.Drawers.{openVerdict}
 use Rattle.density.specs.Lengths.{drawerLength}
@@ -45,7 +48,6 @@ use Rattle.walk.specs.Moves.{rules}
 use Rattle.walk.specs.Opening.{openOutcome, refusedWalk}
 use Rattle.walk.specs.declared.OpenAnswer.{OpenAnswer}
 use Rattle.walk.specs.declared.Walk.{Walk}
-use Rattle.words.specs.Reversal.{oneRing}
 use Rattle.words.specs.Symbols.{ones, zeros}
 
 pub data Answered : Type 0 where
@@ -54,8 +56,8 @@ pub data Answered : Type 0 where
   turned : List ℕ → ℕ → TurnedAnswer → Answered
   -- class of a row
   class : List ℕ → ClassAnswer → Answered
-  -- two rows: one ring, turning over allowed
-  fits : List ℕ → List ℕ → RingAnswer → Answered
+  -- two rows: how the first fits the second
+  fits : List ℕ → List ℕ → FitAnswer → Answered
   -- drawer (n, d): a prefix
   prefix : ℕ → ℕ → List ℕ → PrefixAnswer → Answered
   -- top ring of (n, d), in a buffer of so many bytes
@@ -81,7 +83,7 @@ abbrev pub Keeps : Answered → Type 0
 Keeps (key w room a) = keyOutcome a ≡ decide (keyVerdict w room) (keyGiven w)
 Keeps (turned w room a) = turnedOutcome a ≡ decide (keyVerdict w room) tt
 Keeps (class w a) = classOutcome a ≡ decide (classVerdict w) (classGiven w)
-Keeps (fits v w a) = ringOutcome a ≡ decide (ringVerdict v w) (oneRing v w)
+Keeps (fits v w a) = fitOutcome a ≡ decide (fitVerdict v w) (fitOf v w)
 Keeps (prefix n d p a) = questionOutcome a ≡ decide (questionVerdict n d p) (begins n d p)
 Keeps (top n d room a) = topOutcome a ≡ decide (topVerdict n d room) tt
 Keeps (pitches n l room a) = rowOutcome a ≡ decide (rowVerdict n l room) tt
@@ -111,9 +113,11 @@ answers =
     ∷ class (row "0011") (ClassAnswer.Of true true)
     ∷ class (row "0110") (ClassAnswer.Of false false)
     ∷ class [] (ClassAnswer.Refused refusals.Stations)
-    ∷ fits (row "001011") (row "101001") (RingAnswer.Answered true)
-    ∷ fits (row "001011") (row "000111") (RingAnswer.Answered false)
-    ∷ fits (row "01") (row "010") (RingAnswer.Refused refusals.Limit)
+    ∷ fits (row "101100") (row "001011") (FitAnswer.Turning (negℤ (pos 2)))
+    ∷ fits (row "001011") (row "001101") (FitAnswer.Over (negℤ (pos 2)))
+    ∷ fits (row "010101") (row "101010") (FitAnswer.Both (pos 1))
+    ∷ fits (row "001011") (row "000111") FitAnswer.Different
+    ∷ fits (row "01") (row "010") (FitAnswer.Refused refusals.Limit)
     ∷ prefix 8 3 (row "0010") (PrefixAnswer.Answered true)
     ∷ prefix 8 3 (row "010") (PrefixAnswer.Answered false)
     ∷ prefix 2 1 (row "000") (PrefixAnswer.Refused refusals.Prefix)

@@ -1,14 +1,16 @@
--- The starred specimens of document 01, with the places of M-100, the pitches of M-110, the pairs of M-130, rings of M-140 that are turned
--- over, a bookmark of M-150, seats of M-160 and lengths of M-170, and walks trial by trial; what each says of the definitions.
+-- The starred specimens of document 01, with the places of M-100, the pitches of M-110, the pairs of M-130, a row of M-140 that is
+-- turned over, a bookmark of M-150, seats of M-160, lengths of M-170 and fits of M-180, and walks trial by trial; what each says of the
+-- definitions.
 use mathlib.Core.Path.{_≡_}
 use mathlib.Core.Bool.{Bool, true, false}
 use mathlib.Core.List.{List, [], _∷_, _++_, map}
 use Prim.Native.Nat.{ℕ, _-_}
 use Prim.Native.String.{String}
+use lib.IntN.{ℤ, negℤ, pos}
 use Rattle.words.specs.Difference.{firstDifference}
 use Rattle.words.specs.Order.{cmp, orderOf}
 use Rattle.words.specs.Pairs.{pairs}
-use Rattle.words.specs.Reversal.{oneRing, turnedKey}
+use Rattle.words.specs.Reversal.{turnedKey}
 use Rattle.words.specs.Rotation.{leastRotation, leastIndex, period}
 use Rattle.words.specs.Symbols.{ones, zeros}
 use Rattle.words.specs.declared.Order.{Order}
@@ -16,6 +18,7 @@ use Rattle.words.specs.declared.Order.the-variants.{Higher, Lower}
 use Rattle.density.specs.Lengths.{HowMany, atMost, drawerLength, exactly}
 use Rattle.density.specs.Necklaces.{begins, largestNecklace}
 use Rattle.density.specs.Ranks.{necklaceAt, rank}
+use Rattle.coated.specs.Fitting.{Way, both, different, fitOf, over, turning}
 use Rattle.binder.specs.Calls.{Call, atFirst, callAnswers, fetches, opens, puts, steps}
 use Rattle.listing.specs.Listing.{Line, ring, none, refused, says, told}
 use Rattle.listing.specs.Places.{Placed, placed}
@@ -56,8 +59,8 @@ pub data Specimen : Type 0 where
   compared : List ℕ → List ℕ → Order → ℕ → ℕ → Specimen
   -- turned-over key of a row
   turned : List ℕ → List ℕ → Specimen
-  -- two rows: one ring, turning over allowed, yes or no
-  fits : List ℕ → List ℕ → Bool → Specimen
+  -- two rows: how the first fits the second, and the signed turn
+  fits : List ℕ → List ℕ → Way → ℤ → Specimen
   -- drawer (n, d), kind: the seat of a row
   seat : ℕ → ℕ → ℕ → List ℕ → ℕ → Specimen
   -- drawer (n, d), kind: the ring at a seat
@@ -90,7 +93,7 @@ Says (top n d w) = largestNecklace n d ≡ w
 Says (pitches w list) = pitchesOfRow w ≡ list
 Says (compared a b order place number) = (orderOf (cmp a b) ≡ order) × (firstDifference a b ≡ place) × (pairs a b ≡ number)
 Says (turned w k) = turnedKey w ≡ k
-Says (fits a b answer) = oneRing a b ≡ answer
+Says (fits a b way turn) = fitOf a b ≡ record { way = way; turn = turn }
 Says (seat n d kind w number) = rank n d kind w ≡ number
 Says (ringAt n d kind number w) = necklaceAt n d kind number ≡ w
 Says (rings n d kind limit number) = drawerLength n d kind limit ≡ number
@@ -118,8 +121,13 @@ starred =
     ∷ compared (zeros 19) (zeros 9 ++ ones 10) Lower 10 2
     ∷ compared (zeros 19) (zeros 18) Higher 19 4
     ∷ turned (row "001101") (row "001011")
-    ∷ fits (row "001011") (row "101001") true
-    ∷ fits (row "001011") (row "000111") false
+    ∷ fits (row "001011") (row "101100") turning (pos 2)
+    ∷ fits (row "101100") (row "001011") turning (negℤ (pos 2))
+    ∷ fits (row "001011") (row "011001") turning (pos 3)
+    ∷ fits (row "001011") (row "001101") over (negℤ (pos 2))
+    ∷ fits (row "010101") (row "101010") both (pos 1)
+    ∷ fits (row "00101") (row "01001") both (negℤ (pos 2))
+    ∷ fits (row "001011") (row "000111") different (pos 0)
     ∷ seat 6 3 1 (row "001110") 3
     ∷ seat 6 3 1 (ones 6) 4
     ∷ seat 6 3 2 (ones 6) 3

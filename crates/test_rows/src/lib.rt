@@ -159,6 +159,19 @@ pub fn repeated(
     longer
 }
 
+// The row of n symbols, reversed.
+pub fn reversed(row: &[u8; refusal::MOST_STATIONS], n: usize) -> [u8; refusal::MOST_STATIONS] {
+    let mut back = [0u8; refusal::MOST_STATIONS];
+    let mut i: usize = 0;
+    while i < refusal::MOST_STATIONS {
+        if i < n {
+            back[i] = symbol(row, n, n - 1 - i, 0);
+        }
+        i += 1;
+    }
+    back
+}
+
 // Turn j of a row against turn i of another, place by place: 0 lower, 1 the same, 2 higher.
 pub fn order(
     row: &[u8; refusal::MOST_STATIONS],

@@ -13,11 +13,11 @@ use Rattle.words.proofs.FirstPlaces.{first-tells}
 use Rattle.words.proofs.LeastRotation.{least-index, least-necklace, least-same, same-least}
 use Rattle.words.proofs.OrderTests.{→le}
 use Rattle.words.proofs.Periods.{lyndon-test, period-of}
-use Rattle.words.proofs.Reversal.{oneRing→, rotation-reverse, →oneRing}
+use Rattle.words.proofs.Reversal.{rotation-reverse}
 use Rattle.words.proofs.Rotations.{rotation-seam, →isNecklace}
 use Rattle.words.proofs.TurnedKey.{key-low, key-necklace, key-one-ring, key-ring, ring-key}
 use Rattle.words.proofs.Wrong.{other-decided, wrong-or-right}
-use Rattle.words.specs.Claims.{FirstOther, KeyShelved, LeastTurn, LeastTurned, OneKey, OneRingExactly, OneTurnedKey, PlaceOfFirst, ReversedTwice, Shelved, SmallestPeriod, SmallestTurn, SymmetryByPeriod, TurnReads, TurnedShelved, TurnsReversed, WithoutSymmetry}
+use Rattle.words.specs.Claims.{FirstOther, KeyShelved, LeastTurn, LeastTurned, OneKey, OneTurnedKey, PlaceOfFirst, ReversedTwice, Shelved, SmallestPeriod, SmallestTurn, SymmetryByPeriod, TurnReads, TurnedShelved, TurnsReversed, WithoutSymmetry}
 use Rattle.words.specs.Order.{le, lt}
 use Rattle.words.specs.Reversal.{turnedKey}
 use Rattle.words.specs.Rotation.{isLyndon, isNecklace, leastIndex, leastRotation, period, rotation}
@@ -88,9 +88,6 @@ turned-shelved w h = →isNecklace (turnedKey w) (key-necklace w h)
 
 pub one-turned-key : OneTurnedKey
 one-turned-key v w h k = (key-one-ring k h, ring-key k)
-
-pub one-ring-exactly : OneRingExactly
-one-ring-exactly v w = (oneRing→ v w, →oneRing)
 
 -- ---- symbols
 

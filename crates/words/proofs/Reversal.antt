@@ -1,5 +1,4 @@
 -- Reversal and rotation, and the rows of one ring that may be turned over.
-use mathlib.Core.Bool.{or-true, true}
 use mathlib.Core.List.{List, reverse, reverse-append, reverse-reverse, _++_}
 use mathlib.Core.Logic.{inl, inr, _⊎_}
 use mathlib.Core.Path.{ap, subst, sym, _∙_, _≡_}
@@ -7,13 +6,9 @@ use Prim.Native.Nat.{ℕ, _-_, _<_, _≤_}
 use native.Mathlib.Omega.{arith}
 use lib.ListN.{drop, length, length-drop, length-reverse, take, take-append-drop}
 use Rattle.words.proofs.Below.{le-or}
-use Rattle.words.proofs.Booleans.{or→}
-use Rattle.words.proofs.Bounded.{someBelow→, →someBelow}
-use Rattle.words.proofs.OrderTests.{same→, →same}
 use Rattle.words.proofs.RotationAgain.{rotation-self, rotation-sym, rotation-trans}
 use Rattle.words.proofs.Rotations.{rotation-length, rotation-seam, rotation-zero}
-use Rattle.words.specs.Order.{same}
-use Rattle.words.specs.Reversal.{SameRing, oneRing, rotatesTo}
+use Rattle.words.specs.Reversal.{SameRing}
 use Rattle.words.specs.Rotation.{IsRotation, rotation}
 
 -- a rotation of the reverse is the reverse of a rotation
@@ -56,35 +51,14 @@ ring-trans (inl a) (inr b) = inr (rotation-trans (rotation-reversed a) b)
 ring-trans (inr a) (inl b) = inr (rotation-trans a b)
 ring-trans {u} {v} (inr a) (inr b) = inl (rotation-trans (subst (λ r. IsRotation r (reverse v)) (reverse-reverse u) (rotation-reversed a)) b)
 
+-- turned over, a row comes back from where it was taken
+pub over-sym : {u v : List ℕ} → IsRotation (reverse u) v → IsRotation (reverse v) u
+over-sym {u} {v} a = subst (IsRotation (reverse v)) (reverse-reverse u) (rotation-reversed (rotation-sym a))
+
 pub ring-sym : {u v : List ℕ} → SameRing u v → SameRing v u
 ring-sym (inl a) = inl (rotation-sym a)
-ring-sym {u} {v} (inr a) = inr (subst (IsRotation (reverse v)) (reverse-reverse u) (rotation-reversed (rotation-sym a)))
+ring-sym (inr a) = inr (over-sym a)
 
 pub ring-length : {u v : List ℕ} → SameRing u v → length v ≡ length u
 ring-length {u} (inl a) = ap length (a .is) ∙ rotation-length (a .by) u
 ring-length {u} (inr a) = ap length (a .is) ∙ rotation-length (a .by) (reverse u) ∙ length-reverse u
-
--- ---- the tests
-
-rotatesTo→ : (a b : List ℕ) → rotatesTo a b ≡ true → IsRotation a b
-unfolding rotatesTo
-rotatesTo→ a b e =
-    let r = someBelow→ (length a) (λ j. same (rotation j a) b) e in
-    record { by = r .0; inside = r .1; is = sym (same→ (rotation (r .0) a) b (r .2)) }
-
-→rotatesTo : {a b : List ℕ} → IsRotation a b → rotatesTo a b ≡ true
-unfolding rotatesTo
-→rotatesTo {a} {b} r = →someBelow (length a) (λ j. same (rotation j a) b) (r .by) (r .inside) (→same (rotation (r .by) a) b (sym (r .is)))
-
-pub oneRing→ : (a b : List ℕ) → oneRing a b ≡ true → SameRing a b
-unfolding oneRing
-oneRing→ a b e = go (or→ (rotatesTo a b) (rotatesTo (reverse a) b) e)
-  where
-    go : (rotatesTo a b ≡ true) ⊎ (rotatesTo (reverse a) b ≡ true) → SameRing a b
-    go (inl q) = inl (rotatesTo→ a b q)
-    go (inr q) = inr (rotatesTo→ (reverse a) b q)
-
-pub →oneRing : {a b : List ℕ} → SameRing a b → oneRing a b ≡ true
-unfolding oneRing
-→oneRing {a} {b} (inl r) = rw (→rotatesTo r)
-→oneRing {a} {b} (inr r) = rw (→rotatesTo r) (or-true (rotatesTo a b))

@@ -8,7 +8,7 @@ use lib.ListN.{length, getD, take}
 use Rattle.words.specs.Difference.{firstDifference}
 use Rattle.words.specs.Order.{cmp, le, lt, orderOf, same}
 use Rattle.words.specs.Pairs.{pairs, shorterLength}
-use Rattle.words.specs.Reversal.{SameRing, oneRing, turnedKey}
+use Rattle.words.specs.Reversal.{SameRing, turnedKey}
 use Rattle.words.specs.Rotation.{IsRotation, isLyndon, isNecklace, leastIndex, leastRotation, period, rotation}
 use Rattle.words.specs.Symbols.{Within, firstWrong}
 use Rattle.words.specs.declared.Order.the-variants.{Equal, Higher, Lower}
@@ -105,10 +105,6 @@ TurnedShelved = (w : List ℕ) → 0 < length w → isNecklace (turnedKey w) ≡
 -- one ring, one turned-over key: two rows have the same one exactly when one is a turn of the other or of its reverse
 abbrev pub OneTurnedKey : Type 0
 OneTurnedKey = (v w : List ℕ) → 0 < length v → 0 < length w → (turnedKey v ≡ turnedKey w) ↔ SameRing w v
-
--- "One ring, turning over allowed, yes or no": yes exactly when one is a turn of the other or of its reverse
-abbrev pub OneRingExactly : Type 0
-OneRingExactly = (v w : List ℕ) → (oneRing v w ≡ true) ↔ SameRing v w
 
 -- ---- symbols
 
