@@ -143,10 +143,12 @@ module _ (a b : List ℕ) where
 
   -- there is one
   pub nearest-one : (s t : ℤ) → Nearest a b s → Nearest a b t → s ≡ t
-  nearest-one (pos k) (pos i) m n = let z : k ≡ i =
-      omega (arith, m .nearest (pos i) (n .gives), n .nearest (pos k) (m .gives)) in ap pos z
-  nearest-one (negsuc k) (negsuc i) m n = let z : k ≡ i =
-      omega (arith, m .nearest (negsuc i) (n .gives), n .nearest (negsuc k) (m .gives)) in ap negsuc z
+  nearest-one (pos k) (pos i) m n =
+      let z : k ≡ i = omega (arith, m .nearest (pos i) (n .gives), n .nearest (pos k) (m .gives)) in
+      ap pos z
+  nearest-one (negsuc k) (negsuc i) m n =
+      let z : k ≡ i = omega (arith, m .nearest (negsuc i) (n .gives), n .nearest (negsuc k) (m .gives)) in
+      ap negsuc z
   nearest-one (pos k) (negsuc i) m n =
       let z : k ≡ suc i = omega (arith, m .nearest (negsuc i) (n .gives), n .nearest (pos k) (m .gives)) in
       absurd (n .positive i refl (rw z at (m .gives)))

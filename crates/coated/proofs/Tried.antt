@@ -66,22 +66,16 @@ module _ {a b : List ℕ} {i : ℕ} (t : Tried a b i) where
 
   -- all that take a to b are as far as k
   far : (k : ℕ) → k < length a → k + k ≤ i + 1 → (s : ℤ) → rotationBy s a ≡ b → k ≤ natAbs s
-  far k h l (pos zero) e = go (le-or k 0)
-    where
-      go : (k ≤ 0) ⊎ (0 < k) → k ≤ 0
-      go (inl q) = q
-      go (inr q) = absurd (t .down 0 (omega arith)
-          (rotation-whole (length a - 0) a (omega arith) ∙ sym (rotation-zero a) ∙ up-gives a b 0 (omega arith) e))
-  far k h l (pos (suc m)) e = go (le-or k (suc m))
-    where
-      go : (k ≤ suc m) ⊎ (suc m < k) → k ≤ suc m
-      go (inl q) = q
-      go (inr q) = absurd (t .up (suc m) (omega arith) (omega arith) (up-gives a b (suc m) (omega arith) e))
-  far k h l (negsuc m) e = go (le-or k (suc m))
-    where
-      go : (k ≤ suc m) ⊎ (suc m < k) → k ≤ suc m
-      go (inl q) = q
-      go (inr q) = absurd (t .down (suc m) (omega arith) (down-gives a b m (omega arith) e))
+  far k h l (pos zero) e =
+      let f : 0 < k → ⊥ = λ q. t .down 0 (omega arith)
+      (rotation-whole (length a - 0) a (omega arith) ∙ sym (rotation-zero a) ∙ up-gives a b 0 (omega arith) e) in
+      omega arith
+  far k h l (pos (suc m)) e =
+      let f : suc m < k → ⊥ = λ q. t .up (suc m) (omega arith) (omega arith) (up-gives a b (suc m) (omega arith) e) in
+      omega arith
+  far k h l (negsuc m) e =
+      let f : suc m < k → ⊥ = λ q. t .down (suc m) (omega arith) (down-gives a b m (omega arith) e) in
+      omega arith
 
   pub found-up : (k : ℕ) → i < length a → k + k ≡ i + 1 → same (rotation k a) b ≡ true
       → By (pos k) ≡ turnFound (rotatesTo a b) (nearestTurn a b)
@@ -91,8 +85,7 @@ module _ {a b : List ℕ} {i : ℕ} (t : Tried a b i) where
       (record {
         gives = gives-up a b k few (same→ (rotation k a) b e);
         nearest = far k few (omega arith);
-        positive =
-            λ m q g. absurd (pos-ne-negsuc k m q);
+        positive = λ m q g. absurd (pos-ne-negsuc k m q);
       })
 
   pub found-down : (k : ℕ) → i < length a → k + k ≡ i → same (rotation (length a - k) a) b ≡ true
@@ -111,8 +104,7 @@ module _ {a b : List ℕ} {i : ℕ} (t : Tried a b i) where
       nearest-found a b (negsuc k) (omega arith)
       (record {
         gives = gives-down a b k few (same→ (rotation (length a - suc k) a) b e);
-        nearest =
-            far (suc k) few (omega arith);
+        nearest = far (suc k) few (omega arith);
         positive = apart few;
       })
     where

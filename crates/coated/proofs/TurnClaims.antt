@@ -54,13 +54,11 @@ turn-tied a b r = go (nearestTurn a b) (nearest-is a b r)
     go : (s : ℤ) → Nearest a b s → (turnsTo a b (negℤ s) ≡ true) ↔ ((natAbs s ≡ 0) ⊎ (natAbs s + natAbs s ≡ period a))
     go (pos k) m = (
       λ e. tied-half a b (some r) k m (same→ (rotationBy (negℤ (pos k)) a) b e),
-      λ x. →same
-          (rotationBy (negℤ (pos k)) a) b (half-tied a b (some r) k m x),
+      λ x. →same (rotationBy (negℤ (pos k)) a) b (half-tied a b (some r) k m x),
     )
     go (negsuc k) m = (
       λ e. absurd (m .positive k refl (same→ (rotationBy (pos (suc k)) a) b e)),
-      λ x. absurd
-          (never-tied a b (some r) k m x),
+      λ x. absurd (never-tied a b (some r) k m x),
     )
 
 -- ---- turning over

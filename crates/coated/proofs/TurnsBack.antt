@@ -50,9 +50,6 @@ module _ (a b : List ℕ) (h : 0 < length a) (s : ℤ) (m : Nearest a b s) where
 -- ---- where both do: half the period
 
 module _ (a b : List ℕ) (h : 0 < length a) where
-  p : ℕ
-  p = period a
-
   q : PeriodOf a (period a)
   q = period-of a h
 

@@ -154,7 +154,7 @@ fn compare(
 
 // ---- pairs
 
-// The turn of a row by j, or of its reverse; of each fourth number the first symbol is changed.
+// A turn of a row, or of its reverse, by a quarter of the number; for each fourth number the first symbol is changed.
 fn partner(
     row: &[u8; refusal::MOST_STATIONS],
     n: usize,
