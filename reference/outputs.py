@@ -4,6 +4,7 @@ from itertools import count, product, repeat
 import texts
 from cases import MOST, calls, lines, numeral
 from rings import (
+    REFUSED_OFFER,
     REFUSED_WALK,
     ZEROS,
     begins,
@@ -16,6 +17,7 @@ from rings import (
     first_difference,
     fitting,
     key,
+    look,
     of_kind,
     open_refusal,
     opened,
@@ -32,6 +34,7 @@ from rings import (
     shelved,
     step,
     stations,
+    take,
     top,
     total,
     turn,
@@ -609,12 +612,17 @@ def show_binder_call(binder, letter, name):
 
 
 def name_of(x):
-    return x if x < 10 else {10: 255, 11: MOST}.get(x, x % 4)
+    return x if x < 10 else {10: 255, 11: MOST}.get(x, x % 2)
 
 
 def rows_of(walk):
     n, _, _, row, _, kept = walk
     return number_of(row[:n]) + number_of(kept[:n])
+
+
+def done(answer, name):
+    """The name for a ring or none, or the refusal's number."""
+    return name if answer in ("ring", "none") else answer
 
 
 def random_opening(call):
@@ -625,18 +633,26 @@ def random_opening(call):
 
 def list_calls(number):
     """What each call says, with its place, its trials and the rows handed back."""
-    walk, binder = REFUSED_WALK, {}
+    walk, binder, offers = REFUSED_WALK, {}, [REFUSED_OFFER] * 4
     for index in range(50 * number, 50 * number + 50):
         call = index + 800000
-        which, name = drawn(call, 0, 16), name_of(drawn(call, 1, 32))
-        if which < 4:
-            walk = random_opening(call)
+        which, own = drawn(call, 0, 32), drawn(call, 8, 32768)
+        name, allowance = name_of(drawn(own, 1, 32)), random_allowance(own)
+        if which < 5:
+            walk = random_opening(own)
             yield "opened", 0, 0, 0
-        elif which < 10:
-            walk, *rest = step(walk, random_allowance(call))
+        elif which < 11:
+            walk, *rest = step(walk, allowance)
             yield *rest, rows_of(walk)
-        elif which < 14:
-            binder, no = put(binder, name, walk if which < 13 else random_record(index))
+        elif which < 18:
+            walk, answer, place, trials, offer = look(walk, PLENTY if drawn(own, 10, 2) else allowance)
+            offers = [offer] + offers[:-1]
+            yield done(answer, "looked"), place, trials, rows_of(walk) + rows_of(offer[2])
+        elif which < 25:
+            walk, answer, place, trials = take(walk, offers[drawn(own, 8, 1 + drawn(own, 9, 4))])
+            yield done(answer, "taken"), place, trials, rows_of(walk)
+        elif which < 29:
+            binder, no = put(binder, name, walk if which < 28 else random_record(index))
             yield no or "put", 0, 0, 0
         else:
             walk, no = fetch(binder, name)
@@ -660,7 +676,7 @@ def binder_calls(number):
 def show_counts(name, told_calls):
     """How many calls say what, and the sums."""
     answers, places, trials, rows = zip(*told_calls)
-    said = ("opened", "ring", "none", 20, 21, "put", "fetched", 12, 22, 23)
+    said = ("opened", "ring", "none", "looked", "taken", "put", "fetched", 12, 20, 21, 22, 23, 24)
     print(f"{name}: calls {len(answers)}", *(f"{answer} {answers.count(answer)}" for answer in said), end=" ")
     print(f"trials {sum(trials)} places {sum(places)} rows {sum(rows)} differing 0")
 
@@ -675,6 +691,118 @@ def binder_test():
         for first in range(0, 400, 100):
             told_calls = (call for number in range(first, first + 100) for call in made(number))
             show_counts(f"{name} at random, a hundred from {first}", told_calls)
+
+
+# ---- offers_test
+
+
+def show_offers_call(line, walk, offer):
+    """The walk and the offer after it."""
+    name, *words = line.split(" ")
+    if name == "open":
+        n, d, kind, digits = words
+        return opened(int(n), int(d), int(kind), symbols(digits))[1] or REFUSED_WALK, offer
+    if name == "refused":
+        return walk, REFUSED_OFFER
+    if name == "unfit":
+        return (*walk[:4], ("Down", 0), walk[5]), offer
+    if name == "take":
+        after, answer, place, trials = take(walk, offer)
+    elif name == "look":
+        after, answer, place, trials, offer = look(walk, numeral(words[0]))
+    else:
+        after, answer, place, trials = step(walk, numeral(words[0]))
+    row = text(after[3][: after[0]])
+    print(f": {told(answer)} place {place} trials {trials} row {row} unchanged {said(after == walk)}", end="")
+    if name == "look":
+        offered, allowance, (n, d, kind, row, (where, _), _) = offer
+        print(f" offers: {offered} allowance {allowance} ({n},{d}) kind {kind}", end=" ")
+        print(f"standing {STANDINGS.index(where)} row {text(row[:n])}", end="")
+    return after, offer
+
+
+def numbered_walk(index):
+    """A drawer at a limit, after two steps."""
+    own = drawn(index, 0, 32768)
+    n = 9 - drawn(own, 1, 1 + drawn(own, 5, 9))
+    limit = row_of_number(n, drawn(own, 4, 512) % 2**n)
+    _, walk = opened(n, drawn(own, 2, n + 1), 1 + drawn(own, 3, 3), limit)
+    return step(step(walk, random_allowance(own))[0], random_allowance(index))[0]
+
+
+def numbered_allowance(index):
+    own = drawn(index, 75, 32768)
+    return PLENTY if drawn(own, 5, 2) else random_allowance(own)
+
+
+def numbered_look(made, index):
+    return look(made(index), numbered_allowance(index))
+
+
+def changed_byte(row, i, by):
+    return row[:i] + (row[i] ^ by,) + row[i + 1 :]
+
+
+def changed_offers(offer):
+    """The offer, and what it is changed to in one field or byte."""
+    offered, allowance, walk = offer
+    n, d, kind, row, at, kept = walk
+    yield offer
+    yield {"ring": "none", "none": "ring"}[offered], allowance, walk
+    for other in 0, (allowance - 1) % 2**64, (allowance + 1) % 2**64, MOST:
+        yield offered, other, walk
+    sizes = [((n + by) % 2**64, d, kind) for by in (1, -1)]
+    sizes += [(n, (d + by) % 2**64, kind) for by in (1, -1)]
+    sizes += [(n, d, (kind + by) % 2**8) for by in (1, -1)]
+    walks = [(*size, row, at, kept) for size in sizes]
+    standings = [(where, 0) for where in ("Limit", "Given", "Ended")]
+    standings += [(where, (at[1] + by) % 2**64) for where in ("Down", "Up") for by in (0, 1, -1)]
+    walks += [(n, d, kind, row, other, kept) for other in standings]
+    walks += [(n, d, kind, changed_byte(row, i, by), at, kept) for i in range(64) for by in (1, 128)]
+    walks += [(n, d, kind, row, at, changed_byte(kept, i, by)) for i in range(64) for by in (1, 128)]
+    for other in walks:
+        yield offered, allowance, other
+
+
+def show_offers_counts(name, first, end, told_calls):
+    answers, places, trials, rows = zip(*told_calls)
+    counted = (f"{answer} {answers.count(answer)}" for answer in ("ring", "none", 20, 21, 22, 24))
+    print(f"{name} {first} up to {end}:", *counted, end=" ")
+    print(f"trials {sum(trials)} places {sum(places)} rows {sum(rows)} differing 0")
+
+
+def told_take(walk, offer):
+    """What a take says, with its place, its trials and the rows handed back."""
+    after, answer, place, trials = take(walk, offer)
+    return answer, place, trials, rows_of(after)
+
+
+def changed_takes(made, index):
+    walk, *_, offer = numbered_look(made, index)
+    return (told_take(walk, other) for other in changed_offers(offer))
+
+
+def looks_and_takes(made, index):
+    """A look, and takes of its offer there and after a step in between, of the next one's, and of a refused look's."""
+    walk, answer, place, trials, offer = numbered_look(made, index)
+    yield answer, place, trials, rows_of(walk) + rows_of(offer[2])
+    yield told_take(walk, offer)
+    yield told_take(step(walk, random_allowance(index))[0], offer)
+    yield told_take(walk, numbered_look(made, index + 1)[-1])
+    yield told_take(walk, REFUSED_OFFER)
+
+
+def offers_test():
+    walk, offer = REFUSED_WALK, REFUSED_OFFER
+    for line in lines("offers_test"):
+        print(line, end="")
+        walk, offer = show_offers_call(line, walk, offer)
+        print()
+    for name, calls_of, by in ("offers changed", changed_takes, 100), ("looked at and taken", looks_and_takes, 2000):
+        for sort, made in ("walks", numbered_walk), ("records", random_record):
+            for first in range(0, 4 * by, by):
+                told_calls = (call for index in range(first, first + by) for call in calls_of(made, index))
+                show_offers_counts(f"{name}, {sort}", first, first + by, told_calls)
 
 
 # ---- walk_bench
@@ -692,6 +820,22 @@ def walk_bench():
             break
         rings += 1
     print(rings, "rings", trials, "trials", places, "places")
+
+
+# ---- offer_bench
+
+
+def offer_bench():
+    """Looks and their takes, way 2."""
+    n, d, _, hundreds = texts.stored_input("offer_bench")
+    _, walk = opened(n, d, 1, (1,) * n)
+    trials = places = 0
+    for _ in range(100 * hundreds):
+        *_, offer = look(walk, 1000000)
+        walk, _, place, made = take(walk, offer)
+        trials += made
+        places += place
+    print(trials, "trials", places, "places")
 
 
 # ---- ranking_test

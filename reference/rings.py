@@ -393,3 +393,23 @@ def fetch(binder, name):
     """The walk, and 0 or the refusal's number."""
     no = refusal((12, name > 7), (23, name not in binder))
     return (REFUSED_WALK, no[0]) if no else (binder[name], 0)
+
+
+# ---- offers: "ring" or "none", the allowance, and the walk as it would be
+
+REFUSED_OFFER = ("none", 0, REFUSED_WALK)
+
+
+@lru_cache(64)
+def look(walk, allowance):
+    """The walk as it was, the answer, the place that it carries, the trials, and the offer."""
+    after, answer, place, trials = step(walk, allowance)
+    return walk, answer, place, trials, (answer, allowance, after) if answer in ("ring", "none") else REFUSED_OFFER
+
+
+def take(walk, offer):
+    """The walk, the answer ("ring", "none", 20, 22 or 24), the place that it carries, and the trials."""
+    _, answer, place, trials, seen = look(walk, offer[1])
+    spent = answer == 21
+    no = refusal((22, not fit(*walk)), (20, walk[4] == ("Ended", 0)), (24, spent or seen != offer))
+    return (walk, no[0], 0, 0) if no else (offer[2], answer, place, trials)

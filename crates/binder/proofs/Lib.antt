@@ -2,7 +2,5 @@
 pub mod FitTold
 pub mod UnderName
 pub mod LastPut
--- walks that an opening and steps have brought about
-pub mod StoodWalks
 -- what is claimed in specs/
 pub mod Claims

@@ -1,30 +1,21 @@
 -- What document 02 claims of bookmarks, each claim as a statement of its own.
 use mathlib.Core.Bool.{false, true}
-use mathlib.Core.List.{List, List·Memᴰ, map, _++_, _∷_}
-use mathlib.Core.Logic.{_↔_, _⊎_}
+use mathlib.Core.List.{List}
 use mathlib.Core.Path.{_≡_}
-use Prim.Native.Nat.{ℕ, _+_, _-_, _<_, _≤_}
+use Prim.Native.Nat.{ℕ, _<_, _≤_}
 use lib.ListN.{length}
-use Rattle.density.specs.Choose.{choose}
-use Rattle.density.specs.Lengths.{drawerLength}
-use Rattle.density.specs.Ranks.{rank, ringCount}
-use Rattle.listing.specs.Listing.{Told, listingAnswers}
-use Rattle.listing.specs.Totals.{SaysNone, listingLeft, named}
+use Rattle.listing.specs.Listing.{listingAnswers}
 use Rattle.refusal.specs.Conditions.{Conditions, FirstOf, no-more, when}
 use Rattle.refusal.specs.Outcomes.{given}
 use Rattle.refusal.specs.Verdicts.{accepted, refused}
 use Rattle.refusal.specs.declared.Refusal.{Refusal}
 use Rattle.refusal.specs.declared.Refusal.the-variants.{Name, NothingPut, Unfit}
-use Rattle.walk.specs.Claims.{Meets, Opening, Record, RefusedWalk, bookOf, opened, placedAnswers}
+use Rattle.walk.specs.Claims.{Record, RefusedWalk}
 use Rattle.walk.specs.Fit.{fit}
 use Rattle.walk.specs.Moves.{rules}
-use Rattle.walk.specs.Opening.{openVerdict}
-use Rattle.walk.specs.Step.{handed, walkAnswers, walkPlaced}
+use Rattle.walk.specs.Step.{walkAnswers, walkPlaced}
 use Rattle.walk.specs.ToCome.{stands}
 use Rattle.walk.specs.declared.Walk.{Walk}
-use Rattle.words.specs.Falling.{Falling}
-use Rattle.words.specs.Symbols.{ones}
-use Rattle.binder.specs.Calls.{Call, Held, Stretch, afterCalls, allowances, atFirst, callAnswers, calling, opens, puts, putsIn, steps}
 use Rattle.binder.specs.Names.{fetchOf, fetchVerdict, filed, freshBinder, putOf, putVerdict, under}
 use Rattle.binder.specs.Puts.{Put, afterPuts, fetchDue, fetched}
 use Rattle.binder.specs.declared.Binder.{Binder}
@@ -85,86 +76,12 @@ pub record LastFetched (puts : List Put) (name : ℕ) : Type 0 where
   -- a walk that is given is fit
   pub fits : (w : Walk) → fetchDue name puts ≡ given w → fit rules w ≡ true
   -- and answers as it did: every list of steps alike, by the book of what the record stands for
-  pub alike : (w : Walk) → fetchDue name puts ≡ given w → (steps : List ℕ) → walkPlaced rules (fetchOf (afterPuts freshBinder puts) name) steps ≡ walkPlaced rules w steps
+  pub alike :
+      (w : Walk) → fetchDue name puts ≡ given w → (steps : List ℕ)
+      → walkPlaced rules (fetchOf (afterPuts freshBinder puts) name) steps ≡ walkPlaced rules w steps
   pub booked :
       (w : Walk) → fetchDue name puts ≡ given w → Record w → (steps : List ℕ)
       → walkAnswers rules (fetchOf (afterPuts freshBinder puts) name) steps ≡ listingAnswers (stands rules w) steps
 
 abbrev pub FetchesLast : Type 0
 FetchesLast = (puts : List Put) (name : ℕ) → LastFetched puts name
-
--- ---- openings, steps, puts and fetches mixed
-
--- after any calls, a fetch gives the walk that stood at the last put under the name
-abbrev pub FetchesStood : Type 0
-FetchesStood = (calls : List Call) (name : ℕ) → fetched (afterCalls atFirst calls .binder) name ≡ fetchDue name (putsIn atFirst calls)
-
--- a walk that some steps have brought about from an opening
-pub record Stood (w : Walk) : Type 0 where
-  pub from : Opening
-  pub steps : List ℕ
-  pub same : handed rules (opened from) steps ≡ w
-
--- the walk that stands after some calls is one, and is fit
-abbrev pub StandsFit : Type 0
-StandsFit = (calls : List Call) → let w = afterCalls atFirst calls .walk in Stood w × (fit rules w ≡ true)
-
--- a call that is a step or a put
-abbrev pub StepOrPut : Call → Type 0
-StepOrPut c = ((a : ℕ) × (c ≡ steps a)) ⊎ ((name : ℕ) × (c ≡ puts name))
-
--- every list of steps and puts is a stretch, and no other is
-abbrev pub StretchExactly : Type 0
-StretchExactly = (calls : List Call) → Stretch calls ↔ ((c : Call) → List·Memᴰ c calls → StepOrPut c)
-
--- the answers of a stretch, whatever is held, are those of the walk that stands: puts don't show
-abbrev pub StretchAnswers : Type 0
-StretchAnswers = (h : Held) (stretch : List Call) → Stretch stretch → callAnswers h stretch ≡ walkPlaced rules (h .walk) (allowances stretch)
-
--- the answers without their places
-abbrev pub told : Held → List Call → List Told
-told h calls = map (λ a. a .tells) (callAnswers h calls)
-
--- "The once-only listing .. [is] meant for a stretch between fetches": a stretch is demand 3's list of the walk that stands.
-pub record Listed (h : Held) (stretch : List Call) : Type 0 where
-  -- the opening that this walk comes from, and the steps that it has made since
-  pub stood : Stood (h .walk)
-  -- the answers are those of the drawer's book, from what these steps have left of it
-  pub booked : told h stretch ≡ listingAnswers (listingLeft (bookOf (stood .from)) (stood .steps)) (allowances stretch)
-  -- with their places, they follow those of these steps in demand 3's list
-  pub follows : placedAnswers (stood .from) (stood .steps ++ allowances stretch) ≡ placedAnswers (stood .from) (stood .steps) ++ callAnswers h stretch
-
--- after any calls
-abbrev pub StretchListed : Type 0
-StretchListed = (calls stretch : List Call) → Stretch stretch → Listed (afterCalls atFirst calls) stretch
-
--- the rings that a stretch names: once, falling
-abbrev pub StretchFalling : Type 0
-StretchFalling = (calls stretch : List Call) → Stretch stretch → Falling (named (told (afterCalls atFirst calls) stretch))
-
--- "M-120's ceiling [is] meant for a stretch between fetches"
-abbrev pub StretchCeiling : Type 0
-StretchCeiling =
-    (calls stretch : List Call) → Stretch stretch → let h = afterCalls atFirst calls in
-    length (named (told h stretch)) ≤ choose (h .walk .n) (h .walk .d)
-
--- "The r-th ring of a walk from n ones, in which no bookmark was fetched, has seat total + 1 - r": whatever is held, a drawer is opened from
--- n ones, and a stretch follows
-abbrev pub StretchSeats : Type 0
-StretchSeats =
-    (h : Held) (n d kind : ℕ) (stretch : List Call) → openVerdict n d kind (ones n) ≡ accepted → Stretch stretch
-    → (before : List (List ℕ)) (ring : List ℕ) (more : List (List ℕ)) → named (told (calling h (opens n d kind (ones n))) stretch) ≡ before ++ (ring ∷ more)
-    → let r = length before + 1 in rank n d kind ring ≡ ringCount n d kind + 1 - r
-
--- "The number of rings that the walk opened there yields to its end with no bookmark fetched": whatever is held, a drawer is opened at any
--- limit, and a stretch follows
-abbrev pub StretchLength : Type 0
-StretchLength =
-    (h : Held) (n d kind : ℕ) (limit : List ℕ) (stretch : List Call) → openVerdict n d kind limit ≡ accepted → Stretch stretch
-    → Meets (drawerLength n d kind limit) (told (calling h (opens n d kind limit)) stretch)
-
--- every opening is followed by some stretch that says none, whatever is held
-abbrev pub StretchReachesNone : Type 0
-StretchReachesNone =
-    (h : Held) (n d kind : ℕ) (limit : List ℕ) → openVerdict n d kind limit ≡ accepted
-    → (stretch : List Call) × Stretch stretch × SaysNone (told (calling h (opens n d kind limit)) stretch)

@@ -2,5 +2,4 @@
 pub mod Names
 pub mod InnerAnswers
 pub mod Puts
-pub mod Calls
 pub mod Claims

@@ -1,4 +1,4 @@
-// Openings, steps, puts and fetches, each compared with the model.
+// Openings, steps, looks, takes, puts and fetches, each compared with the model.
 use crate::compared;
 use crate::counts;
 use crate::counts::Counts;
@@ -7,21 +7,27 @@ use crate::model::Entry;
 use crate::model::Log;
 use crate::model::Page;
 use crate::model::Stand;
+use crate::offered;
+use crate::offered::Made;
 use binder::Binder;
 use test_rows::cases;
 use test_walks::random;
 use walk::Walk;
 ghost use Prim.Native.Nat.{_<_};
 
-// The walk that stands, with its page; the binder and the log of its puts; and what was counted.
+// How many offers are held, the newest first.
+pub const OFFERS: usize = 4;
+
+// The walk that stands, with its page; the offers held; the binder and the log of its puts; and what was counted.
 pub struct Held {
     pub stand: Stand,
+    pub offers: [Made; OFFERS],
     pub binder: Binder,
     pub log: Log,
     pub counts: Counts,
 }
 
-// Nothing opened, and nothing put.
+// Nothing opened, looked at or put.
 pub fn at_first(counts: Counts) -> Held {
     let entry = model::no_put();
     let stand = entry.stand;
@@ -31,6 +37,7 @@ pub fn at_first(counts: Counts) -> Held {
     };
     Held {
         stand,
+        offers: [offered::no_look(); OFFERS],
         binder: Binder::fresh(),
         log,
         counts,
@@ -72,7 +79,7 @@ pub fn steps(held: Held, allowance: u64) -> Held {
     let stand = held.stand;
     let before = stand.page;
     let allowed = allowance as usize;
-    let told = compared::step(stand.walk, allowance);
+    let told = test_calls::step(stand.walk, allowance);
     let walk = told.walk;
     let counts = counts::counted(
         held.counts,
@@ -83,6 +90,63 @@ pub fn steps(held: Held, allowance: u64) -> Held {
         model::differing(before, allowed, told),
     );
     let page = model::turned(before, allowed);
+    Held {
+        stand: Stand { walk, page },
+        counts,
+        ..held
+    }
+}
+
+// Looks at the walk that stands, and holds the offer; the oldest is let go.
+pub fn looks(held: Held, allowance: u64) -> Held {
+    let stand = held.stand;
+    let page = stand.page;
+    let before = stand.walk;
+    let seen = test_calls::look(before, allowance);
+    let due = offered::step_due(page, before, allowance);
+    let told = seen.told;
+    let walk = told.walk;
+    let offer = seen.offer;
+    let counts = counts::counted(
+        held.counts,
+        counts::done_or(told.said, counts::LOOKED),
+        told.trials,
+        told.place,
+        test_walks::plus(counts::rows_of(walk), counts::rows_of(offer.walk)),
+        test_calls::look_differing(before, allowance, seen, due),
+    );
+    let made = offered::made_by(page, told.said, offer);
+    let old = held.offers;
+    let offers = [made, old[0], old[1], old[2]];
+    Held {
+        stand: Stand { walk, page },
+        offers,
+        counts,
+        ..held
+    }
+}
+
+// Takes an offer that is held, on the walk that stands now.
+pub fn takes(held: Held, age: usize) -> Held
+    requires { ⌜ age < 4 ⌝ }
+{
+    let stand = held.stand;
+    let before = stand.page;
+    let offers = held.offers;
+    let made = offers[age];
+    let offer = made.offer;
+    let due = offered::take_due(before, stand.walk, made);
+    let told = test_calls::take(stand.walk, offer);
+    let walk = told.walk;
+    let counts = counts::counted(
+        held.counts,
+        counts::done_or(told.said, counts::TAKEN),
+        told.trials,
+        told.place,
+        counts::rows_of(walk),
+        test_calls::differing(told, due),
+    );
+    let page = offered::page_after(before, due.said, offer.allowance);
     Held {
         stand: Stand { walk, page },
         counts,
@@ -132,7 +196,7 @@ pub fn fetches(held: Held, name: usize) -> Held {
     let page = due.page;
     let said = compared::answer_number(answer, counts::FETCHED);
     let differing = test_rows::one_if(said != compared::fetch_due(name, entry.accepted))
-        + test_rows::one_if(!test_walks::same_walk(walk, due.walk));
+        + test_rows::one_if(!walk_records::same_walk(walk, due.walk));
     Held {
         stand: Stand { walk, page },
         counts: counts::counted(held.counts, said, 0, 0, counts::rows_of(walk), differing),

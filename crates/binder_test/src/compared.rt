@@ -1,29 +1,9 @@
-// What steps, puts and fetches say and leave, as numbers and compared.
+// What puts and fetches say and leave, as numbers and compared.
 use crate::counts;
 use binder::Binder;
 use binder::BinderAnswer;
 use binder::Bookmark;
 use walk::Walk;
-
-// What a step says and hands back: a ring 0, none 1, or the refusal's number.
-pub struct Told {
-    pub walk: Walk,
-    pub said: u8,
-    pub place: usize,
-    pub trials: usize,
-}
-
-pub fn step(before: Walk, allowance: u64) -> Told {
-    let step = before.step(allowance);
-    let answer = step.answer;
-    let walk = step.walk;
-    Told {
-        walk,
-        said: test_walks::answer_number(answer),
-        place: step.place,
-        trials: step.trials as usize,
-    }
-}
 
 // The number for done, or the refusal's.
 pub fn answer_number(answer: BinderAnswer, done: u8) -> u8 {
@@ -38,7 +18,7 @@ pub fn put_due(name: usize, walk: Walk) -> u8 {
     if 7 < name {
         return 12;
     }
-    let told = step(walk, 1000);
+    let told = test_calls::step(walk, 1000);
     if told.said == 22 {
         return 22;
     }
@@ -56,12 +36,12 @@ pub fn fetch_due(name: usize, put: bool) -> u8 {
 // Whether what stands under a name is the walk that was put here, or what stood there before.
 fn is_filed(before: Bookmark, after: Bookmark, here: bool, walk: Walk) -> bool {
     if here {
-        return after.put && test_walks::same_walk(after.walk, walk);
+        return after.put && walk_records::same_walk(after.walk, walk);
     }
     if before.put != after.put {
         return false;
     }
-    test_walks::same_walk(before.walk, after.walk)
+    walk_records::same_walk(before.walk, after.walk)
 }
 
 // How many names have another bookmark than is due, where a put under a name was done or refused.

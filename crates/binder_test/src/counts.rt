@@ -2,28 +2,39 @@
 use walk::Walk;
 ghost use Prim.Native.Nat.{_<_};
 
-// Calls by what they say: openings, rings, none, 20, 21, puts and fetches done, 12, 22 and 23. The sums of trials, of places carried and of
-// the rows handed back as numbers; and what differed. No number goes above a billion.
+// Calls by what they say: openings, steps that give a ring or none, looks that give either, takes accepted, puts and
+// fetches done, and refusals. The sums of trials told, of places carried, and of the rows handed back and offered as
+// numbers; and what differed. No number goes above a billion.
 pub struct Counts {
     pub calls: usize,
-    pub answers: [usize; 10],
+    pub answers: [usize; 13],
     pub trials: usize,
     pub places: usize,
     pub rows: usize,
     pub differing: usize,
 }
 
-// What is said: a ring 0, none 1, or the refusal's number; for puts and fetches that are done, and for openings, a number of their own.
+// What is said: a ring 0, none 1, or the refusal's number; for calls other than steps that are done, a number of
+// their own.
 pub const PUT: u8 = 2;
 
 pub const FETCHED: u8 = 3;
 
 pub const OPENED: u8 = 4;
 
+pub const LOOKED: u8 = 5;
+
+pub const TAKEN: u8 = 6;
+
+// The number for a ring or none, or the refusal's.
+pub fn done_or(said: u8, done: u8) -> u8 {
+    if said < 2 { done } else { said }
+}
+
 pub fn nothing() -> Counts {
     Counts {
         calls: 0,
-        answers: [0; 10],
+        answers: [0; 13],
         trials: 0,
         places: 0,
         rows: 0,
@@ -33,19 +44,22 @@ pub fn nothing() -> Counts {
 
 // Where a call is counted by what it says.
 fn slot_of(said: u8) -> usize
-    ensures { λ r. ⌜ r < 10 ⌝ }
+    ensures { λ r. ⌜ r < 13 ⌝ }
 {
     match said {
         OPENED => 0,
         0 => 1,
         1 => 2,
-        20 => 3,
-        21 => 4,
+        LOOKED => 3,
+        TAKEN => 4,
         PUT => 5,
         FETCHED => 6,
         12 => 7,
-        22 => 8,
-        _ => 9,
+        20 => 8,
+        21 => 9,
+        22 => 10,
+        23 => 11,
+        _ => 12,
     }
 }
 
@@ -85,7 +99,7 @@ pub fn print_counts(from: usize, counts: Counts) {
     let answers = counts.answers;
     test_rows::print_filled(b", a hundred from #: calls #", &[from, counts.calls]);
     test_rows::print_filled(
-        b" opened # ring # none # 20 # 21 # put # fetched # 12 # 22 # 23 #",
+        b" opened # ring # none # looked # taken # put # fetched # 12 # 20 # 21 # 22 # 23 # 24 #",
         &answers,
     );
     test_rows::print_filled(

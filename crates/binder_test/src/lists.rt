@@ -10,7 +10,7 @@ use binder::Bookmark;
 use test_walks::random;
 ghost use Prim.Native.Nat.{_<_};
 
-// 0 to 9, 255, the highest number, then 0 to 3 by turns.
+// 0 to 9, 255, the highest number, then 0 and 1 by turns.
 fn name_of(x: usize) -> usize {
     if x < 10 {
         return x;
@@ -21,20 +21,35 @@ fn name_of(x: usize) -> usize {
     if x == 11 {
         return test_rows::MOST;
     }
-    x % 4
+    x % 2
 }
 
-// A call at random. Its numbers lie apart from those of the records.
+// An allowance as for steps, or plenty.
+fn look_allowance(own: usize) -> u64
+    requires { ⌜ own < 1000000 ⌝ }
+{
+    if random::drawn(own, 10, 2) == 0 {
+        return random::allowance(own);
+    }
+    1000
+}
+
+// A call at random. Its numbers lie apart from those of the records; what it is called with is drawn from a number of
+// its own, so that it doesn't hang together with which call it is.
 fn call(held: Held, index: usize) -> Held
     requires { ⌜ index < 100000 ⌝ }
 {
     let from = index + 800000;
-    let name = name_of(random::drawn(from, 1, 32));
-    match random::drawn(from, 0, 16) {
-        0..=3 => calls::opens(held, calls::opened(from)),
-        4..=9 => calls::steps(held, random::allowance(from)),
-        10..=12 => calls::puts(held, name, held.stand),
-        13 => calls::puts_record(held, name, index),
+    let own = random::drawn(from, 8, 32768);
+    let name = name_of(random::drawn(own, 1, 32));
+    let age = random::drawn(own, 8, 1 + random::drawn(own, 9, calls::OFFERS));
+    match random::drawn(from, 0, 32) {
+        0..=4 => calls::opens(held, calls::opened(own)),
+        5..=10 => calls::steps(held, random::allowance(own)),
+        11..=17 => calls::looks(held, look_allowance(own)),
+        18..=24 => calls::takes(held, age),
+        25..=27 => calls::puts(held, name, held.stand),
+        28 => calls::puts_record(held, name, index),
         _ => calls::fetches(held, name),
     }
 }

@@ -1,9 +1,11 @@
-// Puts, fetches and steps: single cases, lists at random against a plain model, and binders that no list of puts makes.
+// Puts and fetches: single cases, lists at random of all calls against a plain model, and binders that no list of puts
+// makes.
 mod calls;
 mod compared;
 mod counts;
 mod lists;
 mod model;
+mod offered;
 mod single;
 
 use counts::Counts;

@@ -1,5 +1,5 @@
 // The plain model: the log of all puts, looked through from the last to the first, and the book of each walk.
-use crate::compared::Told;
+use test_calls::Told;
 use test_walks::book::Book;
 use walk::Walk;
 

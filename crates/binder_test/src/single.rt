@@ -10,8 +10,8 @@ use walk::Walk;
 fn walked(n: usize, d: usize, kind: u8, first: u64, second: u64) -> Walk {
     let row = test_rows::row_of_number(n, test_rows::MOST);
     let opening = Walk::open(n, d, kind, cases::part(&row, 0, n));
-    let once = compared::step(opening.walk, first);
-    let twice = compared::step(once.walk, second);
+    let once = test_calls::step(opening.walk, first);
+    let twice = test_calls::step(once.walk, second);
     twice.walk
 }
 
@@ -49,9 +49,9 @@ fn print_row(w: Walk) {
 // A walk, what a step of it says, and the row after it.
 fn print_walk(w: Walk) {
     let at = w.at;
-    let told = compared::step(w, 1000);
-    let standing = test_rows::wide(test_walks::standing_number(at));
-    let place = test_walks::standing_place(at);
+    let told = test_calls::step(w, 1000);
+    let standing = test_rows::wide(walk_records::standing_number(at));
+    let place = walk_records::standing_place(at);
     test_rows::print_filled(
         b" (#,#) kind # standing # place #",
         &[w.n, w.d, test_rows::wide(w.kind), standing, place],

@@ -8,10 +8,11 @@ use lib.Seq.{drop-at, take-at}
 use Rattle.refusal.specs.Claims.{BufferFilled, NumbersTell, RefusalNumbers}
 use Rattle.refusal.specs.Refusals.{numberOf, placeOf}
 use Rattle.refusal.specs.declared.Refusal.{Refusal}
-use Rattle.refusal.specs.declared.Refusal.the-variants.{Stations, Holes, Symbol, Limit, Kind, Prefix, PitchSum, LastPlain, Buffer, Text, ZeroPitch, Name, Seat, Ended, Spent, Unfit, NothingPut}
+use Rattle.refusal.specs.declared.Refusal.the-variants.{Stations, Holes, Symbol, Limit, Kind, Prefix, PitchSum, LastPlain, Buffer, Text, ZeroPitch, Name, Seat, Ended, Spent, Unfit, NothingPut, NotOffered}
 
 pub refusal-numbers : RefusalNumbers
 refusal-numbers p = (
+  (refl, refl),
   (refl, refl),
   (refl, refl),
   (refl, refl),
@@ -49,7 +50,8 @@ refusalOf number p =
     (cond (eqb number 13) Seat
     (cond (eqb number 20) Ended
     (cond (eqb number 21) Spent
-    (cond (eqb number 22) Unfit NothingPut)))))))))))))))
+    (cond (eqb number 22) Unfit
+    (cond (eqb number 23) NothingPut NotOffered))))))))))))))))
 
 numbered : (r : Refusal) → refusalOf (numberOf r) (placeOf r) ≡ r
 numbered Stations = refl
@@ -69,6 +71,7 @@ numbered Ended = refl
 numbered Spent = refl
 numbered Unfit = refl
 numbered NothingPut = refl
+numbered NotOffered = refl
 
 pub numbers-tell : NumbersTell
 numbers-tell r s number place = sym (numbered r) ∙ ap₂ refusalOf number place ∙ numbered s

@@ -31,6 +31,9 @@ chain-first (test b {C = C} {r = r} {rest = rest} {v = v} t more) = go b t (λ h
 
 -- ---- the tests
 
+pub false-tells : (b : Bool) → Tells b (b ≡ false)
+false-tells b = (λ e. e, λ e f. true≢false (sym e ∙ f))
+
 zero-or : (n : ℕ) → (n ≡ 0) ⊎ (1 ≤ n)
 zero-or zero = inl refl
 zero-or (suc n) = inr (omega arith)

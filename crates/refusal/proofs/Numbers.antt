@@ -3,7 +3,7 @@ use mathlib.Core.Path.{refl, _≡_}
 use Prim.Native.Nat.{suc, ℕ}
 use Rattle.refusal.specs.Refusals.{numberOf}
 use Rattle.refusal.specs.declared.Refusal.{Refusal}
-use Rattle.refusal.specs.declared.Refusal.the-variants.{Buffer, Ended, Holes, Kind, LastPlain, Limit, Name, NothingPut, PitchSum, Prefix, Seat, Spent, Stations, Symbol, Text, Unfit, ZeroPitch}
+use Rattle.refusal.specs.declared.Refusal.the-variants.{Buffer, Ended, Holes, Kind, LastPlain, Limit, Name, NotOffered, NothingPut, PitchSum, Prefix, Seat, Spent, Stations, Symbol, Text, Unfit, ZeroPitch}
 
 pub some-number : (r : Refusal) → (c : ℕ) × (numberOf r ≡ suc c)
 some-number Stations = (0, refl)
@@ -23,3 +23,4 @@ some-number Ended = (19, refl)
 some-number Spent = (20, refl)
 some-number Unfit = (21, refl)
 some-number NothingPut = (22, refl)
+some-number NotOffered = (23, refl)

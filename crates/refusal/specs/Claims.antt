@@ -7,7 +7,7 @@ use Rattle.refusal.specs.Outcomes.{filled}
 use Rattle.refusal.specs.Refusals.{numberOf, placeOf}
 use Rattle.refusal.specs.Verdicts.{accepted, refused}
 use Rattle.refusal.specs.declared.Refusal.{Refusal}
-use Rattle.refusal.specs.declared.Refusal.the-variants.{Stations, Holes, Symbol, Limit, Kind, Prefix, PitchSum, LastPlain, Buffer, Text, ZeroPitch, Name, Seat, Ended, Spent, Unfit, NothingPut}
+use Rattle.refusal.specs.declared.Refusal.the-variants.{Stations, Holes, Symbol, Limit, Kind, Prefix, PitchSum, LastPlain, Buffer, Text, ZeroPitch, Name, Seat, Ended, Spent, Unfit, NothingPut, NotOffered}
 
 -- a refusal's number, and the place beside it
 abbrev pub Numbered : Refusal → ℕ → ℕ → Type 0
@@ -34,6 +34,7 @@ RefusalNumbers =
     × Numbered Spent 21 0
     × Numbered Unfit 22 0
     × Numbered NothingPut 23 0
+    × Numbered NotOffered 24 0
 
 -- the number and the place tell the refusal
 abbrev pub NumbersTell : Type 0

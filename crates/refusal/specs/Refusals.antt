@@ -1,7 +1,7 @@
 -- "Refused for the input" and "Refused for the state": each refusal's number and place.
 use Prim.Native.Nat.{ℕ}
 use Rattle.refusal.specs.declared.Refusal.{Refusal}
-use Rattle.refusal.specs.declared.Refusal.the-variants.{Stations, Holes, Symbol, Limit, Kind, Prefix, PitchSum, LastPlain, Buffer, Text, ZeroPitch, Name, Seat, Ended, Spent, Unfit, NothingPut}
+use Rattle.refusal.specs.declared.Refusal.the-variants.{Stations, Holes, Symbol, Limit, Kind, Prefix, PitchSum, LastPlain, Buffer, Text, ZeroPitch, Name, Seat, Ended, Spent, Unfit, NothingPut, NotOffered}
 
 -- the number of document 01
 abbrev pub numberOf : Refusal → ℕ
@@ -22,6 +22,7 @@ numberOf Ended = 20
 numberOf Spent = 21
 numberOf Unfit = 22
 numberOf NothingPut = 23
+numberOf NotOffered = 24
 
 -- its place: "0 unless named"
 abbrev pub placeOf : Refusal → ℕ
@@ -42,3 +43,4 @@ placeOf Ended = 0
 placeOf Spent = 0
 placeOf Unfit = 0
 placeOf NothingPut = 0
+placeOf NotOffered = 0

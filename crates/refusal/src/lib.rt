@@ -41,6 +41,8 @@ pub enum Refusal {
     Unfit,
     // nothing put under the name
     NothingPut,
+    // the offer is not what a look at the walk gives
+    NotOffered,
 }
 
 // Whether a row may have n stations.
@@ -75,6 +77,7 @@ fn tell(r: Refusal) -> Told
         Refusal::Spent => Told(21, 0),
         Refusal::Unfit => Told(22, 0),
         Refusal::NothingPut => Told(23, 0),
+        Refusal::NotOffered => Told(24, 0),
     }
 }
 

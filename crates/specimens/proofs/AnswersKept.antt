@@ -13,6 +13,7 @@ use Rattle.density.specs.Rows.{isPadded}
 use Rattle.drawer_input.specs.Input.{limitAt, readDrawer, valuesAt}
 use Rattle.necklace.specs.Class.{classVerdict}
 use Rattle.necklace.specs.Key.{keyVerdict}
+use Rattle.offers.specs.Offers.{lookOf, offersSo, sameOffer, takeOf, takeVerdict}
 use Rattle.pascal.specs.Answers.{waysVerdict}
 use Rattle.pitches.specs.Answers.{listVerdict, rowVerdict}
 use Rattle.pitches.specs.Pitches.{addsUp, endsInOne, firstZero, hasPitchList, pitchesFrom, pitchesOfRow}
@@ -23,6 +24,11 @@ use Rattle.specimens.specs.Answered.{Keep, answers}
 use Rattle.text.specs.Ascii.{ascii}
 use Rattle.text.specs.Parts.{belongs, isNumeral, numeralAt, run, spacedAt, valueFrom}
 use Rattle.walk.specs.Fit.{fit, fitAt, fitSizes}
+use Rattle.walk.specs.Moves.{moveAt}
+use Rattle.walk.specs.Step.{enough, stepOf}
+use Rattle.walk.specs.Step as moves
+use Rattle.walk_records.specs.SameWalks.{sameStanding, sameWalk}
+use Rattle.words.specs.Difference.{firstDifference}
 use Rattle.words.specs.Order.{cmp, le, lt, same}
 use Rattle.words.specs.Reversal.{isBracelet, lowerOf, turnedKey}
 use Rattle.words.specs.Rotation.{isLeastAt, isLyndon, isNecklace, leastIndex, leastRotation, period, rotation}
@@ -36,5 +42,6 @@ unfolding answers ascii keyVerdict classVerdict fitVerdict questionVerdict rowVe
     keep any isPrefix rotation isNecklace isLyndon period isLeastAt leastIndex leastRotation lowerOf turnedKey
     isBracelet rotatesTo nearestAmount nearestTurn fitOf density allRows isNecklaceOf necklaces begins ofKind rank
     drawerLength choose freshBinder under fit fitAt fitSizes isPadded allUpTo readDrawer valuesAt limitAt spacedAt
-    numeralAt isNumeral valueFrom run belongs
-answers-keep = (refl, (refl, (refl, (refl, (refl, (refl, (refl, (refl, (refl, (refl, (refl, (refl, (refl, (refl, (refl, (refl, (refl, (refl, (refl, (refl, (refl, (refl, (refl, (refl, (refl, (refl, (refl, (refl, (refl, (refl, (refl, (refl, (refl, (refl, (refl, (refl, (refl, (refl, (refl, (refl, (refl, (refl, (refl, (refl, (refl, tt)))))))))))))))))))))))))))))))))))))))))))))
+    numeralAt isNumeral valueFrom run belongs stepOf moves.run enough moveAt lookOf takeOf takeVerdict offersSo
+    firstDifference sameOffer sameWalk sameStanding
+answers-keep = (refl, (refl, (refl, (refl, (refl, (refl, (refl, (refl, (refl, (refl, (refl, (refl, (refl, (refl, (refl, (refl, (refl, (refl, (refl, (refl, (refl, (refl, (refl, (refl, (refl, (refl, (refl, (refl, (refl, (refl, (refl, (refl, (refl, (refl, (refl, (refl, (refl, (refl, (refl, (refl, (refl, (refl, (refl, (refl, (refl, (refl, (refl, (refl, (refl, (refl, (refl, (refl, (refl, (refl, (refl, (refl, tt))))))))))))))))))))))))))))))))))))))))))))))))))))))))

@@ -1,5 +1,5 @@
--- What the operations answer in specimens of documents 01 and 02: each is an instance of the operation's promise, so that the verdict, the
--- values and the telling of each case of an answer are held to the documents' numbers.
+-- What the operations answer in specimens of documents 01 and 02: each is an instance of the operation's promise, so that
+-- the verdict, the values and the telling of each case of an answer are held to the documents' numbers.
 use mathlib.Core.Bool.{false, true}
 use mathlib.Core.List.{List, [], _∷_}
 use mathlib.Core.Path.{_≡_}
@@ -29,6 +29,10 @@ use Rattle.necklace.specs.Class.{classGiven, classOutcome, classVerdict}
 use Rattle.necklace.specs.Key.{keyGiven, keyOutcome, keyVerdict}
 use Rattle.necklace.specs.declared.ClassAnswer.{ClassAnswer}
 use Rattle.necklace.specs.declared.KeyAnswer.{KeyAnswer}
+use Rattle.offers.specs.Offers.{lookOf, takeOf}
+use Rattle.offers.specs.declared.Looked.{Looked}
+use Rattle.offers.specs.declared.Offer.{Offer}
+use Rattle.offers.specs.declared.Offered.the-variants as offered
 use Rattle.pascal.specs.Answers.{waysOutcome, waysVerdict}
 use Rattle.pascal.specs.declared.Answer.{Answer}
 use Rattle.pitches.specs.Answers.{listOutcome, listVerdict, rowOutcome, rowVerdict}
@@ -42,11 +46,15 @@ use Rattle.ranking.specs.declared.Seat.{Seat}
 use Rattle.ranking.specs.declared.Seated.{Seated}
 use Rattle.refusal.specs.Outcomes.{decide}
 use Rattle.refusal.specs.declared.Refusal.the-variants as refusals
-use Rattle.specimens.specs.Starred.{row}
+use Rattle.specimens.specs.Starred.{offer, row, stand, standing}
 use Rattle.text.specs.Ascii.{ascii}
 use Rattle.walk.specs.Moves.{rules}
 use Rattle.walk.specs.Opening.{openOutcome, refusedWalk}
+use Rattle.walk.specs.declared.Answer.the-variants as step
+use Rattle.walk.specs.declared.Answer as told
 use Rattle.walk.specs.declared.OpenAnswer.{OpenAnswer}
+use Rattle.walk.specs.declared.Standing.the-variants.{Down, Ended, Given, Limit}
+use Rattle.walk.specs.declared.Stepped.{Stepped}
 use Rattle.walk.specs.declared.Walk.{Walk}
 use Rattle.words.specs.Symbols.{ones, zeros}
 
@@ -75,6 +83,9 @@ pub data Answered : Type 0 where
   -- a walk put under a name, and a fetch from a fresh binder
   put : ℕ → Walk → BinderAnswer → Answered
   fetch : ℕ → BinderAnswer → Answered
+  -- a look at a walk with an allowance, and a take of an offer on it
+  look : Walk → ℕ → Looked → Answered
+  take : Walk → Offer → Stepped → Answered
   -- a text read, with a buffer of so many bytes for the limit
   read : String → ℕ → Request → Answered
 
@@ -95,7 +106,50 @@ Keeps (rings n d kind limit a) = lengthOutcome a ≡ decide (openVerdict n d kin
 Keeps (opens n d kind limit a) = openOutcome a ≡ decide (openVerdict n d kind limit) tt
 Keeps (put name w a) = binderOutcome a ≡ decide (putVerdict name w) tt
 Keeps (fetch name a) = binderOutcome a ≡ decide (fetchVerdict freshBinder name) tt
+Keeps (look w a l) = l ≡ lookOf w a
+Keeps (take w o t) = t ≡ takeOf w o
 Keeps (read text room a) = requestOutcome a ≡ requestFor (readDrawer (ascii text)) room
+
+-- ---- walks and offers
+
+-- (2, 1) from the limit 01, after its ring and after none
+abbrev fresh : Walk
+fresh = standing 2 1 1 (stand (row "01") Limit (row "01"))
+
+abbrev given : Walk
+given = standing 2 1 1 (stand (row "01") Given (row "01"))
+
+abbrev ended : Walk
+ended = standing 2 1 1 (stand (row "00") Ended (row "00"))
+
+-- from the limit 11, and an unfit record
+abbrev above : Walk
+above = standing 2 1 1 (stand (row "11") Limit (row "11"))
+
+abbrev unfit : Walk
+unfit = standing 2 1 1 (stand (row "01") (Down 0) (row "01"))
+
+-- (1, 0) after its ring
+abbrev last : Walk
+last = standing 1 0 1 (stand (row "0") Given (row "0"))
+
+-- the ring of (2, 1), and none after it, with an allowance
+abbrev ring : ℕ → Offer
+ring a = offer 2 1 1 offered.Ring a (stand (row "01") Given (row "01"))
+
+abbrev none : ℕ → Offer
+none a = offer 2 1 1 offered.None a (stand (row "00") Ended (row "00"))
+
+-- the offer of a refused look
+abbrev nothing : Offer
+nothing = record { offered = offered.None; allowance = 0; walk = refusedWalk rules }
+
+-- what a look hands back, with its trials, and what a take does, each with place 0
+abbrev looked : Walk → told.Answer → ℕ → Offer → Looked
+looked w x t o = record { walk = w; answer = x; place = 0; trials = t; offer = o }
+
+abbrev taken : Walk → told.Answer → Stepped
+taken w x = record { walk = w; answer = x; place = 0; trials = 0 }
 
 -- that of each in a list
 abbrev pub Keep : List Answered → Type 0
@@ -146,6 +200,17 @@ answers =
     ∷ put 8 (refusedWalk rules) (BinderAnswer.Refused refusals.Name)
     ∷ fetch 7 (BinderAnswer.Refused refusals.NothingPut)
     ∷ fetch 8 (BinderAnswer.Refused refusals.Name)
+    ∷ look fresh 0 (looked fresh step.Ring 0 (ring 0))
+    ∷ look given 0 (looked given step.None 0 (none 0))
+    ∷ look ended 9 (looked ended (step.Refused refusals.Ended) 0 nothing)
+    ∷ look above 1 (looked above (step.Refused refusals.Spent) 1 nothing)
+    ∷ take fresh (ring 0) (taken given step.Ring)
+    ∷ take given (none 7) (taken ended step.None)
+    ∷ take last nothing (taken (refusedWalk rules) step.None)
+    ∷ take fresh nothing (taken fresh (step.Refused refusals.NotOffered))
+    ∷ take above (ring 1) (taken above (step.Refused refusals.NotOffered))
+    ∷ take ended nothing (taken ended (step.Refused refusals.Ended))
+    ∷ take unfit nothing (taken unfit (step.Refused refusals.Unfit))
     ∷ read "stations holes kind limit\n6 3 1 111111\n" 6 (Request.Drawer 6 3 1 6)
     ∷ read "stations holes kind limit\n6 3 1 111111\n" 5 (Request.Refused refusals.Buffer)
     ∷ read "stations holes kind limit\n" 6 (Request.Refused (refusals.Text 2))

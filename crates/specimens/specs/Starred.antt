@@ -1,6 +1,6 @@
--- The starred specimens of document 01, with the places of M-100, the pitches of M-110, the pairs of M-130, a row of M-140 that is
--- turned over, a bookmark of M-150, seats of M-160, lengths of M-170 and fits of M-180, and walks trial by trial; what each says of the
--- definitions.
+-- The starred specimens of document 01, with the places of M-100, the pitches of M-110, the pairs of M-130, a row of
+-- M-140 that is turned over, a bookmark of M-150, seats of M-160, lengths of M-170, fits of M-180 and offers of M-190,
+-- and walks trial by trial; what each says of the definitions.
 use mathlib.Core.Path.{_≡_}
 use mathlib.Core.Bool.{Bool, true, false}
 use mathlib.Core.List.{List, [], _∷_, _++_, map}
@@ -19,9 +19,12 @@ use Rattle.density.specs.Lengths.{HowMany, atMost, drawerLength, exactly}
 use Rattle.density.specs.Necklaces.{begins, largestNecklace}
 use Rattle.density.specs.Ranks.{necklaceAt, rank}
 use Rattle.coated.specs.Fitting.{Way, both, different, fitOf, over, turning}
-use Rattle.binder.specs.Calls.{Call, atFirst, callAnswers, fetches, opens, puts, steps}
 use Rattle.listing.specs.Listing.{Line, ring, none, refused, says, told}
 use Rattle.listing.specs.Places.{Placed, placed}
+use Rattle.mixed_calls.specs.Calls.{Call, atFirst, callAnswers, fetches, looks, opens, puts, steps, takes}
+use Rattle.offers.specs.declared.Offer.{Offer}
+use Rattle.offers.specs.declared.Offered.{Offered}
+use Rattle.offers.specs.declared.Offered.the-variants.{None, Ring}
 use Rattle.pitches.specs.Pitches.{pitchesOfRow}
 use Rattle.walk.specs.Moves.{rules}
 use Rattle.walk.specs.Opening.{openVerdict, openWalk}
@@ -71,7 +74,7 @@ pub data Specimen : Type 0 where
   step : ℕ → ℕ → ℕ → List ℕ → Line → ℕ → ℕ → Specimen
   -- drawer (n, d), kind, limit: where the walk stands after each of some steps
   course : ℕ → ℕ → ℕ → List ℕ → List ℕ → List Stand → Specimen
-  -- openings, steps, puts and fetches: the answers of the steps
+  -- openings, steps, puts, fetches, looks and takes: the answers of the steps and of the takes that are accepted
   calls : List Call → List Placed → Specimen
 
 -- the record of (n, d) and a kind that stands so: behind both rows are zeros
@@ -79,6 +82,10 @@ abbrev pub standing : ℕ → ℕ → ℕ → Stand → Walk
 standing n d kind s =
     let behind = zeros (mostStations - n) in
     record { n = n; d = d; kind = kind; row = s .row ++ behind; at = s .at; kept = s .kept ++ behind }
+
+-- an offer of (n, d) and a kind: a ring or none, the allowance, and where the walk would stand
+abbrev pub offer : ℕ → ℕ → ℕ → Offered → ℕ → Stand → Offer
+offer n d kind x a s = record { offered = x; allowance = a; walk = standing n d kind s }
 
 -- the records that some steps hand back
 unfoldable pub records : Walk → List ℕ → List Walk
@@ -177,6 +184,20 @@ starred =
     ∷ placed (told (refused 21) 4) 0
     ∷ placed (told (says (ring (row "001101"))) 2) 2
     ∷ placed (told (says (ring (row "001101"))) 2) 2
+    ∷ [])
+    ∷ calls
+    (opens 6 3 1 (ones 6)
+    ∷ looks 100
+    ∷ steps 4
+    ∷ takes (offer 6 3 1 Ring 6 (stand (row "010101") Given (row "010101")))
+    ∷ takes (offer 6 3 1 Ring 100 (stand (row "010101") Given (row "010101")))
+    ∷ takes (offer 6 3 1 Ring 100 (stand (row "010101") Given (row "010101")))
+    ∷ takes (offer 6 3 1 None 100 (stand (row "001101") Given (row "001101")))
+    ∷ takes (offer 6 3 1 Ring 6 (stand (row "001101") Given (row "001101")))
+    ∷ [])
+    (placed (told (refused 21) 4) 0
+    ∷ placed (told (says (ring (row "010101"))) 7) 1
+    ∷ placed (told (says (ring (row "001101"))) 6) 2
     ∷ [])
     ∷ pitches (row "00100101") (3 ∷ 3 ∷ 2 ∷ [])
     ∷ []

@@ -1,10 +1,9 @@
-// Walk records for the test programs: compared, numbered, printed, and drawn at random. The drawer's book, by a plain listing.
+// For the test programs: rows of walk records, compared and numbered; records at random; the drawer's book, by a plain
+// listing.
 pub mod book;
 pub mod random;
 
 use walk::Answer;
-use walk::Standing;
-use walk::Walk;
 
 // A ring 0, none 1, or the refusal's number.
 pub fn answer_number(answer: Answer) -> u8 {
@@ -12,28 +11,6 @@ pub fn answer_number(answer: Answer) -> u8 {
         Answer::Ring => 0,
         Answer::None => 1,
         Answer::Refused(r) => refusal::number(r),
-    }
-}
-
-// Limit 0, Down 1, Up 2, Given 3, Ended 4.
-pub fn standing_number(at: Standing) -> u8 {
-    match at {
-        Standing::Limit => 0,
-        Standing::Down(_) => 1,
-        Standing::Up(_) => 2,
-        Standing::Given => 3,
-        Standing::Ended => 4,
-    }
-}
-
-// The place beside Down and Up, else 0.
-pub fn standing_place(at: Standing) -> usize {
-    match at {
-        Standing::Limit => 0,
-        Standing::Down(p) => p,
-        Standing::Up(p) => p,
-        Standing::Given => 0,
-        Standing::Ended => 0,
     }
 }
 
@@ -73,34 +50,6 @@ pub fn number_of(n: usize, row: &[u8; refusal::MOST_STATIONS]) -> usize {
         i += 1;
     }
     number
-}
-
-pub fn same_walk(w: Walk, other: Walk) -> bool {
-    let row = w.row;
-    let at = w.at;
-    let kept = w.kept;
-    let other_row = other.row;
-    let other_at = other.at;
-    let other_kept = other.kept;
-    if w.n != other.n {
-        return false;
-    }
-    if w.d != other.d {
-        return false;
-    }
-    if w.kind != other.kind {
-        return false;
-    }
-    if standing_number(at) != standing_number(other_at) {
-        return false;
-    }
-    if standing_place(at) != standing_place(other_at) {
-        return false;
-    }
-    if !same_row(&row, &other_row) {
-        return false;
-    }
-    same_row(&kept, &other_kept)
 }
 
 // ---- sums, none above a billion

@@ -123,7 +123,7 @@ fn kept(
     if x < 2 {
         return own;
     }
-    if x < 7 && crate::standing_number(at) == 4 {
+    if x < 7 && walk_records::standing_number(at) == 4 {
         return [0u8; refusal::MOST_STATIONS];
     }
     row(index + 500000, n)

@@ -30,7 +30,7 @@ fn is_changed(said: u8, w: Walk, after: Walk, trials: u64) -> bool {
     if trials != 0 {
         return true;
     }
-    !test_walks::same_walk(w, after)
+    !walk_records::same_walk(w, after)
 }
 
 // Whether a step carries another place, or keeps another row, than plain search says.
@@ -74,7 +74,7 @@ pub fn outcome(w: Walk, allowance: u64) -> Outcomes {
         misplaced: test_rows::one_if(is_misplaced(said, w, after, step.place)),
         trials: step.trials as usize,
         rows: test_walks::number_of(after.n, &row),
-        places: test_walks::standing_place(at),
+        places: walk_records::standing_place(at),
         carried: step.place,
         kept: test_walks::number_of(after.n, &kept),
     }

@@ -43,17 +43,17 @@ fn print_step(w: Walk, step: Stepped) {
     let row = after.row;
     let at = after.at;
     let answer = step.answer;
-    let standing = test_rows::wide(test_walks::standing_number(at));
+    let standing = test_rows::wide(walk_records::standing_number(at));
     test_walks::print_said(test_walks::answer_number(answer));
     test_rows::print_filled(b" trials # row ", &[step.trials as usize]);
     test_rows::print_row(after.n, &row);
     test_rows::print_filled(
         b" standing # place #",
-        &[standing, test_walks::standing_place(at)],
+        &[standing, walk_records::standing_place(at)],
     );
     print_kept(step);
     io::write_all(1, b" unchanged");
-    test_walks::print_truth(test_walks::same_walk(w, after));
+    test_walks::print_truth(walk_records::same_walk(w, after));
 }
 
 // A line is a name, then stations, holes, kind, standing, its place, and as digits the row and the row kept.

@@ -83,7 +83,7 @@ fn left_right(number: usize, n: usize, said: u8, before: Walk, after: Walk) -> b
     let row = after.row;
     let at = after.at;
     if said == 20 {
-        return test_walks::same_walk(before, after);
+        return walk_records::same_walk(before, after);
     }
     if said == 21 {
         return is_due(&row, at);
@@ -93,7 +93,7 @@ fn left_right(number: usize, n: usize, said: u8, before: Walk, after: Walk) -> b
         return false;
     }
     // Given after a ring, Ended after none
-    test_walks::standing_number(at) == 3 + said % 2
+    walk_records::standing_number(at) == 3 + said % 2
 }
 
 // A step, compared with what the book says: the answer, the trials, the place, and the walk that is left. `next` is the book after it.

@@ -1,0 +1,1 @@
+// Lists of openings, steps, puts, fetches, looks and takes, mixed. Definitions and laws, no code.

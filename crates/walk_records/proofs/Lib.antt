@@ -1,0 +1,2 @@
+-- the test of two walk records is equality
+pub mod SameWalks
