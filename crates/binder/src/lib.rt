@@ -1,4 +1,6 @@
 // A binder: walks kept under names 0 to 7, by value.
+#![tactic(auto)]
+
 ghost use Rattle.std.specs.Prelude.{◌≡◌, ◌≤◌};
 ghost use Rattle.refusal.specs.Outcomes.{decide};
 ghost use Rattle.walk.specs.Fit.{fit};

@@ -1,5 +1,7 @@
 // Puts and fetches: single cases, lists at random of all calls against a plain model, and binders that no list of puts
 // makes.
+#![tactic(auto)]
+
 mod calls;
 mod compared;
 mod counts;

@@ -1,4 +1,6 @@
 // Rings that may be turned over: the turned-over key of a row.
+#![tactic(auto)]
+
 ghost use Rattle.std.specs.Prelude.{◌≡◌, length};
 ghost use Rattle.words.specs.Reversal.{turned_key};
 ghost use Rattle.refusal.specs.Outcomes.{decide, filled};

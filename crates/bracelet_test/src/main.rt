@@ -1,4 +1,6 @@
 // The turned-over key: specimens, refusals in their order, and short rows against plain search.
+#![tactic(auto)]
+
 mod all_rows;
 mod single;
 

@@ -1,4 +1,6 @@
 // Rings with a coated face: how one row fits another, by turning, by turning over or by both.
+#![tactic(auto)]
+
 ghost use Rattle.std.specs.Prelude.{◌≡◌};
 ghost use Rattle.refusal.specs.Outcomes.{decide};
 ghost use Rattle.coated.specs.Answers.{fit_outcome, fit_verdict};

@@ -1,4 +1,6 @@
 // How one row fits another: specimens, refusals in their order, and pairs of rows against plain search.
+#![tactic(auto)]
+
 mod pairs;
 mod signed;
 mod single;

@@ -1,5 +1,7 @@
 // Compares two rows many times and prints the sum of what was told. Read: the length of the rows, the place where they differ or 0, the way (0
 // without comparing, 1 byte by byte, 2 the library's), and the times in hundreds, a byte each.
+#![tactic(auto)]
+
 mod by_bytes;
 
 ghost use Rattle.std.specs.Prelude.{◌<◌};

@@ -1,1 +1,2 @@
 // Necklaces counted: definitions and laws only.
+#![tactic(auto)]

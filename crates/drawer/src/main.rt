@@ -1,4 +1,6 @@
 // The drawer program.
+#![tactic(auto)]
+
 fn main() {
     drawer_program::run();
 }

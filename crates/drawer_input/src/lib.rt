@@ -1,4 +1,6 @@
 // The drawer program's input, read.
+#![tactic(auto)]
+
 pub mod parse;
 
 ghost use Rattle.std.specs.Prelude.{◌≡◌, length};

@@ -1,4 +1,6 @@
 // Shows the faults of the drawer program's input, and compares many inputs.
+#![tactic(auto)]
+
 mod compare;
 
 ghost use Rattle.std.specs.Prelude.{◌≤◌};

@@ -1,4 +1,6 @@
 // The drawer program's lines, written.
+#![tactic(auto)]
+
 ghost use Rattle.std.specs.Prelude.{◌≡◌, ◌≤◌, length};
 ghost use Rattle.drawer_lines.specs.Lines.{header, ring_line, end_line, refusal_text, longest_line, written, count_of};
 

@@ -1,4 +1,6 @@
 // Shows the drawer program's printed lines, and compares many of them.
+#![tactic(auto)]
+
 mod compare;
 
 use refusal::Refusal;

@@ -1,5 +1,7 @@
 // The drawer program: reads a drawer, a kind and a limit from standard input, and prints the rings at or below the limit. What it prints is
 // the text that `printing` makes.
+#![tactic(auto)]
+
 ghost use Rattle.std.specs.Prelude.{List, ◌≡◌, ℕ, ◌<◌, ◌≤◌, length};
 ghost use Rattle.drawer_input.specs.Input.{most_bytes};
 ghost use Rattle.printing.specs.Left.{left};

@@ -1,4 +1,6 @@
 // Whether symbols go on to a necklace of (n, d), in about n steps. What is known of them is handed in.
+#![tactic(auto)]
+
 ghost use Rattle.std.specs.Prelude.{◌≡◌, true, false, ◌-◌, ◌≤◌, ◌<◌, length, take};
 ghost use Rattle.words.specs.Symbols.{sum, Within};
 ghost use Rattle.words.specs.InnerScan.{Leading};

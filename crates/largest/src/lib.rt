@@ -1,4 +1,6 @@
 // The top ring: the largest necklace of length n and density d.
+#![tactic(auto)]
+
 ghost use Rattle.std.specs.Prelude.{◌≡◌, ◌-◌, ◌*◌, ◌%◌, ◌<◌, ◌≤◌, length, take};
 ghost use Rattle.density.specs.InnerBalanced.{balanced};
 ghost use Rattle.density.specs.Necklaces.{largest_necklace};

@@ -1,4 +1,6 @@
 // Prints top rings, compares all of them with the closed form, and shows the refusals.
+#![tactic(auto)]
+
 ghost use Rattle.std.specs.Prelude.{◌<◌, ◌≤◌};
 ghost use Rattle.refusal.specs.Verdicts.{most_stations};
 

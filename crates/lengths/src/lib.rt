@@ -1,4 +1,6 @@
 // The length of a drawer, before it is opened. Nothing is walked.
+#![tactic(auto)]
+
 ghost use Rattle.std.specs.Prelude.{◌≡◌};
 ghost use Rattle.density.specs.Choose.{choose};
 ghost use Rattle.density.specs.Drawers.{open_verdict};

@@ -1,4 +1,6 @@
 // The Lyndon words whose power is at or below a row, for each divisor of its length, by the rows that have a rotation so.
+#![tactic(auto)]
+
 mod bound;
 mod rows;
 

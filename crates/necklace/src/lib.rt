@@ -1,4 +1,6 @@
 // Key and class of a row.
+#![tactic(auto)]
+
 ghost use Rattle.std.specs.Prelude.{◌≡◌, length};
 ghost use Rattle.words.specs.Rotation.{least_rotation};
 ghost use Rattle.refusal.specs.Outcomes.{decide, filled};

@@ -1,6 +1,8 @@
 // Walks a drawer from n ones, in up to 25500 steps, and prints the trials and places. Read: the bytes n, d, the way
 // that each step is made, and the steps in hundreds. Way 0 is a step, 1 a look and then a step, 2 a look and then its
 // take, so that the costs of both come out.
+#![tactic(auto)]
+
 ghost use Rattle.std.specs.Prelude.{◌≤◌};
 ghost use Rattle.refusal.specs.Verdicts.{most_stations};
 

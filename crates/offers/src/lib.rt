@@ -1,4 +1,6 @@
 // Look, then take: what a walk would give next is offered, and the walk moves when the offer is taken.
+#![tactic(auto)]
+
 ghost use Rattle.std.specs.Prelude.{◌≡◌};
 ghost use Rattle.walk.specs.Moves.{rules};
 ghost use Rattle.walk.specs.Step.{step_due, step_numbers};

@@ -1,4 +1,6 @@
 // Looks and takes: single calls, offers changed in one field or byte, and records at random, against steps.
+#![tactic(auto)]
+
 mod changed;
 mod counts;
 mod single;

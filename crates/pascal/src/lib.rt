@@ -1,4 +1,6 @@
 // The ways to choose k of n, for n up to 64, from a table.
+#![tactic(auto)]
+
 mod numbers;
 
 ghost use Rattle.std.specs.Prelude.{◌≡◌, suc};

@@ -1,4 +1,6 @@
 // Pitch lists: a row as the numbers of stations from one hole on to the next, the hole itself counted.
+#![tactic(auto)]
+
 ghost use Rattle.std.specs.Prelude.{◌≡◌, ◌≤◌, ◌<◌, true, length};
 ghost use Rattle.words.specs.Buffers.{fronted};
 ghost use Rattle.words.specs.Symbols.{zeros};

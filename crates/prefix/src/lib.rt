@@ -1,4 +1,6 @@
 // The prefix question: does some necklace of length n and density d begin with a given prefix?
+#![tactic(auto)]
+
 pub mod carried;
 
 ghost use Rattle.std.specs.Prelude.{◌≡◌};

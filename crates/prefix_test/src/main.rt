@@ -1,4 +1,6 @@
 // The prefix question against a listing of all necklaces of up to 10 stations, its pitfalls, and its refusals in their order.
+#![tactic(auto)]
+
 ghost use Rattle.std.specs.Prelude.{◌<◌};
 
 use prefix::PrefixAnswer;

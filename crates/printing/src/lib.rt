@@ -1,4 +1,6 @@
 // The drawer program's printed text, made piece by piece into lent buffers.
+#![tactic(auto)]
+
 mod lines;
 mod opening;
 

@@ -1,4 +1,6 @@
 // The drawer program's text, as it is handed out in buffers of many lengths, against plain printing.
+#![tactic(auto)]
+
 mod drawers;
 mod pieces;
 mod plain;

@@ -1,6 +1,8 @@
 // Works out the seat of a row, the ring at a seat, or the length of a drawer from a limit, some times, and prints the sum of the seats, the
 // ring, or the sum of the lengths. Read: the bytes n, d, kind, which, how often, and eight bytes of a number, the highest first. Which: 0 the
 // seat of the row of the number's last n binary digits, 1 the ring at the seat of that number, 2 the length from that row.
+#![tactic(auto)]
+
 use lengths::Length;
 use ranking::Seat;
 use test_rows::cases;

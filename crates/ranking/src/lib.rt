@@ -1,4 +1,6 @@
 // Seat numbers: the rank of a row among the rings of a drawer and kind, and the ring of a rank.
+#![tactic(auto)]
+
 pub mod inner;
 
 ghost use Rattle.std.specs.Prelude.{◌≡◌, length};

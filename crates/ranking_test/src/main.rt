@@ -1,4 +1,6 @@
 // Seat numbers: single cases, all rows, seats and walks of short drawers against plain counting, and a grid of refusals.
+#![tactic(auto)]
+
 mod asked;
 mod counted;
 mod drawers;

@@ -1,4 +1,6 @@
 // The refusals of document 01, each with its number and place.
+#![tactic(auto)]
+
 ghost use Rattle.std.specs.Prelude.{◌≡◌};
 ghost use Rattle.refusal.specs.Refusals.{number_of, place_of};
 ghost use Rattle.refusal.specs.Verdicts.{are_stations};

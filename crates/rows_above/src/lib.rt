@@ -1,4 +1,6 @@
 // The rows all of whose rotations are above a row that begins a necklace, counted by blocks: the row cut before a 0, and a 1 behind it.
+#![tactic(auto)]
+
 ghost use Rattle.std.specs.Prelude.{◌≡◌, ◌+◌, ◌-◌, ◌≤◌, ◌<◌, length};
 ghost use Rattle.counting.specs.InnerRoots.{rows_above};
 ghost use Rattle.rows_above.specs.InnerTables.{Added, Cleared, Filled, Opening, SumsFit, table_size};

@@ -1,1 +1,2 @@
 // The starred specimens of document 01, as one list and one theorem.
+#![tactic(auto)]

@@ -1,4 +1,6 @@
 // For the test programs: what steps, looks and takes say and leave, what is due, and what differs.
+#![tactic(auto)]
+
 use offers::{Offer, Offered};
 use walk::Walk;
 

@@ -1,4 +1,6 @@
 // Rows for the test programs: written as digits or numbered, and searched in the plainest way.
+#![tactic(auto)]
+
 pub mod cases;
 pub mod openings;
 

@@ -1,4 +1,6 @@
 // Texts for the test programs: filled in from a form, and compared.
+#![tactic(auto)]
+
 ghost use Rattle.std.specs.Prelude.{◌≡◌, ◌≤◌, length};
 
 // A piece behind what a text holds, as far as there is room.

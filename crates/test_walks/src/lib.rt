@@ -1,5 +1,7 @@
 // For the test programs: rows of walk records, compared and numbered; records at random; the drawer's book, by a plain
 // listing.
+#![tactic(auto)]
+
 pub mod book;
 pub mod random;
 

@@ -1,4 +1,6 @@
 // Pieces of text: bytes and numbers read at a place, pieces put into a lent buffer.
+#![tactic(auto)]
+
 pub mod read;
 pub mod symbols;
 pub mod write;

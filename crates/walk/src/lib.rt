@@ -1,4 +1,6 @@
 // A walk of the necklaces of (n, d), held by value: opened at a limit, stepped with an allowance of trials.
+#![tactic(auto)]
+
 mod course;
 
 ghost use Rattle.std.specs.Prelude.{◌≡◌, ◌-◌, take};

@@ -1,4 +1,6 @@
 // Walks a drawer from n ones, up to 2000 rings, and prints the rings and the trials. Read: the bytes n, d, kind, and the rings wanted in hundreds.
+#![tactic(auto)]
+
 ghost use Rattle.std.specs.Prelude.{◌≤◌};
 ghost use Rattle.refusal.specs.Verdicts.{most_stations};
 

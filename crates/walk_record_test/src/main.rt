@@ -1,4 +1,6 @@
 // Steps of records that no opening and no step need hand back: single ones, all of a few stations, and some at random.
+#![tactic(auto)]
+
 mod numbered;
 mod outcomes;
 mod random;

@@ -1,4 +1,6 @@
 // Walk records told in numbers, and compared.
+#![tactic(auto)]
+
 ghost use Rattle.std.specs.Prelude.{◌≡◌};
 ghost use Rattle.words.specs.Order.{same};
 ghost use Rattle.walk_records.specs.SameWalks.{same_standing, same_walk, standing_number, standing_place};

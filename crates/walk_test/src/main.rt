@@ -1,4 +1,6 @@
 // The walk against the book that a plain listing gives, its printed examples, and its refusals.
+#![tactic(auto)]
+
 mod shown;
 
 ghost use Rattle.std.specs.Prelude.{◌<◌, ◌≤◌, ◌*◌};

@@ -1,4 +1,6 @@
 // Prints the ways to choose, top rising, bottom rising within it. It stops at once where output is not taken.
+#![tactic(auto)]
+
 use pascal::Answer;
 
 // A number and what follows it; whether all of it was taken.

@@ -7,8 +7,8 @@ use native.Mathlib.Omega.{arith}
 use lib.Bits.{bit_xor}
 use lib.Count.{count_leading_zeros}
 use lib.ListN.{get_or, length, take}
-use Rattle.bytes.proofs.FirstUnequal.{FirstByte, equal_bytes, first_byte}
-use Rattle.bytes.specs.Number.{high_first}
+use Rattle.byte_words.proofs.FirstUnequal.{FirstByte, equal_bytes, first_byte}
+use Rattle.byte_words.specs.Number.{high_first}
 use Rattle.words.proofs.Agreeing.{agree_cmp, agree_ended, agree_more, agree_place}
 use Rattle.words.proofs.Difference.{no_difference}
 use Rattle.words.proofs.OrderTests.{cmp_ended, cmp_higher, cmp_long, cmp_lower, cmp_short}

@@ -1,4 +1,6 @@
 // Rows over any alphabet: the comparison of two rows, and the search for a wrong symbol.
+#![tactic(auto)]
+
 pub mod inner;
 
 ghost use Rattle.std.specs.Prelude.{◌≡◌};
@@ -31,22 +33,22 @@ pub fn compare(a: &[u8], b: &[u8]) -> Compared
     ensures pairs { result.pairs ≡ pairs a.now b.now }
 {
     let shorter = if a.len() < b.len() { a.len() } else { b.len() };
-    let words = shorter / bytes::WORD;
+    let words = shorter / byte_words::WORD;
     let mut k: usize = 0;
     while k < words {
-        let x = bytes::word_at(a, k * bytes::WORD);
-        let y = bytes::word_at(b, k * bytes::WORD);
+        let x = byte_words::word_at(a, k * byte_words::WORD);
+        let y = byte_words::word_at(b, k * byte_words::WORD);
         if x != y {
             let order = if x < y { Order::Lower } else { Order::Higher };
             return Compared {
                 order,
-                place: k * bytes::WORD + bytes::equal_bytes(x, y) + 1,
+                place: k * byte_words::WORD + byte_words::equal_bytes(x, y) + 1,
                 pairs: k + 1,
             };
         }
         k += 1;
     }
-    let mut i = words * bytes::WORD;
+    let mut i = words * byte_words::WORD;
     while i < shorter {
         let x = a[i];
         let y = b[i];
@@ -55,12 +57,12 @@ pub fn compare(a: &[u8], b: &[u8]) -> Compared
             return Compared {
                 order,
                 place: i + 1,
-                pairs: words + i % bytes::WORD + 1,
+                pairs: words + i % byte_words::WORD + 1,
             };
         }
         i += 1;
     }
-    let pairs = words + shorter % bytes::WORD;
+    let pairs = words + shorter % byte_words::WORD;
     if a.len() == b.len() {
         return Compared {
             order: Order::Equal,
