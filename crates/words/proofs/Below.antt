@@ -1,12 +1,12 @@
 -- The dictionary order as a family to match on, and what each answer of the three-way comparison means.
 use mathlib.Core.List.{List, [], ◌++◌, ◌∷◌}
-use mathlib.Core.Logic.{inl, inr, ◌⊎◌}
+use mathlib.Core.Logic.{inl, inr, ⊎_elim, ◌⊎◌}
 use mathlib.Core.Path.{ap, refl, ◌≡◌}
 use Prim.Native.Nat.compare
 use Prim.Native.Nat.{Ordering, compare, suc, suc-le-suc, zero, ℕ, ◌<◌, ◌≤◌}
 use native.Mathlib.Nat.{lt_irrefl, lt_trans}
 use native.Mathlib.Omega.{arith}
-use lib.ListN.{length}
+use lib.ListN.{drop, get_or, length}
 use Rattle.words.specs.Order.{cmp, head_first}
 
 infix 50 ◌≺◌
@@ -24,9 +24,13 @@ pub ≺_trans : {a b c : List ℕ} → a ≺ b → b ≺ c → a ≺ c
 ≺_trans (there h) (here k) = here k
 ≺_trans (there h) (there k) = there (≺_trans h k)
 
+≺_differ : {a b : List ℕ} → a ≺ b → a ≡ b → ⊥
+≺_differ (short {y = y} {ys = ys}) e = omega (arith, ap length e)
+≺_differ (here h) e = omega (arith, ap (λ w. get_or w 0 0) e)
+≺_differ (there h) e = ≺_differ h (ap (λ w. drop 1 w) e)
+
 pub ≺_irrefl : {a : List ℕ} → a ≺ a → ⊥
-≺_irrefl (here h) = omega arith
-≺_irrefl (there h) = ≺_irrefl h
+≺_irrefl h = ≺_differ h refl
 
 pub ≺_asym : {a b : List ℕ} → a ≺ b → b ≺ a → ⊥
 ≺_asym h k = ≺_irrefl (≺_trans h k)
@@ -36,15 +40,14 @@ pub ≺_under : (p : List ℕ) {a b : List ℕ} → a ≺ b → (p ++ a) ≺ (p 
 ≺_under [] h = h
 ≺_under (x ∷ p) h = there (≺_under p h)
 
-pub ≺_strip : (p : List ℕ) {a b : List ℕ} → (p ++ a) ≺ (p ++ b) → a ≺ b
-≺_strip [] h = h
-≺_strip (x ∷ p) (here h) = absurd (lt_irrefl x h)
-≺_strip (x ∷ p) (there h) = ≺_strip p h
-
 -- where a head is a call, a match on `≺` is refused: this instead
 pub ≺-uncons : {x y : ℕ} {xs ys : List ℕ} → (x ∷ xs) ≺ (y ∷ ys) → (x < y) ⊎ ((x ≡ y) × (xs ≺ ys))
 ≺-uncons (here h) = inl h
 ≺-uncons (there h) = inr (refl, h)
+
+pub ≺_strip : (p : List ℕ) {a b : List ℕ} → (p ++ a) ≺ (p ++ b) → a ≺ b
+≺_strip [] h = h
+≺_strip (x ∷ p) h = ≺_strip p (⊎_elim (λ q. absurd (lt_irrefl x q)) (λ q. q.1) (≺-uncons h))
 
 -- a beginning of a row is below it
 pub longer : (a : List ℕ) (c : ℕ) (z : List ℕ) → a ≺ (a ++ (c ∷ z))

@@ -61,6 +61,7 @@ keep_falling p (falls_from {w = w} {l = l} h f) = go (p w) (keep_falling p f)
 
 pub head_highest : {w : List ℕ} {l : List (List ℕ)} → Falling l → Memᴰ w l → w ≼ head_d l []
 unfolding head_d
+head_highest falls_none m = elim m [ ]
 head_highest (falls_from h f) (mathlib.Core.List.Memᴰ.head e) = equal e
 head_highest {w} (falls_from {w = x} h f) (mathlib.Core.List.Memᴰ.tail m) = lower (lt→ w x (h w m))
 
@@ -124,6 +125,7 @@ nothing_between (x ∷ l) b a r (falls_from h f) w m q = go (nothing_between l b
 
 pub at_or_below : (x : List ℕ) {l : List (List ℕ)} → Falling l → Memᴰ x l → keep (λ r. le r x) l ≡ x ∷ keep (λ r. lt r x) l
 unfolding keep
+at_or_below x falls_none m = elim m [ ]
 at_or_below x (falls_from {w = w} {l = l} h f) (mathlib.Core.List.Memᴰ.head e) =
     rw (← e, →le x x (≼_refl x), not_lt x x (≼_refl x)) (ap {B = List (List ℕ)} (λ t. x ∷ t) (keep_same (λ r. le r x) (λ r. lt r x) l both))
   where
@@ -148,6 +150,7 @@ keep_fewer p (x ∷ l) = go (p x) (keep_fewer p l)
 -- in a falling list, what is below x is its first and what is below that
 pub rest_below : {x r : List ℕ} {rs l : List (List ℕ)} → Falling l → r ≺ x → Memᴰ r l → keep (λ v. lt v x) l ≡ r ∷ rs → keep (λ v. lt v r) l ≡ rs
 unfolding keep
+rest_below falls_none low m e = elim m [ ]
 rest_below {x} {r} {rs} (falls_from {w = w} {l = l} h f) low (mathlib.Core.List.Memᴰ.head q) e =
     let a : lt w x ≡ true = →lt w x (rw q at low) in
     let b : lt w r ≡ false = not_lt w r (equal q) in

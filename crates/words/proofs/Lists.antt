@@ -34,6 +34,7 @@ keep→ p w (x ∷ l) m = go (p x) refl (keep→ p w l) m
 
 pub →keep : (p : List ℕ → Bool) (w : List ℕ) (l : List (List ℕ)) → Memᴰ w l → p w ≡ true → Memᴰ w (keep p l)
 unfolding keep
+→keep p w [] m e = elim m [ ]
 →keep p w (x ∷ l) (Memᴰ.head q) e = rw (← q, e) (Memᴰ.head refl)
 →keep p w (x ∷ l) (Memᴰ.tail m) e = go (p x) (→keep p w l m e)
   where

@@ -73,7 +73,7 @@ place (x ∷ l) s p h = go (place l s p) (le_or s (length l))
     go ih (inr k) = record { before = []; row = x; behind = l; whole = refl; count = omega arith }
 
 -- and for each member
-pub place_of : {l : List (List ℕ)} {r : List ℕ} → Memᴰ r l → (a : List (List ℕ)) × (b : List (List ℕ)) × (l ≡ a ++ (r ∷ b))
+pub place_of : {r : List ℕ} {l : List (List ℕ)} → Memᴰ r l → (a : List (List ℕ)) × (b : List (List ℕ)) × (l ≡ a ++ (r ∷ b))
 place_of (Memᴰ.head {x = x} {xs = l} e) = ([], l, ap {B = List (List ℕ)} (λ t. t ∷ l) (sym e))
 place_of (Memᴰ.tail {x = x} {xs = l} m) = let k = place_of m in (x ∷ k.0, k.1, ap {B = List (List ℕ)} (λ t. x ∷ t) k.2)
 
