@@ -46,6 +46,7 @@ module _ (z : ℕ) (w s : List ℕ) (is : w ≡ zeros z ++ (1 ∷ s)) (l : Neckl
       go ih (inr k) =
           let same : q ≡ z = omega arith in
           absurd (low (front u) (zeros q ++ (0 ∷ r)) (r ++ front u) e (append_assoc (zeros q) (0 ∷ r) (front u) ∙ ap (λ k. zeros k ++ (0 ∷ (r ++ front u))) same))
+  blocks_have_ones (suc (suc k) ∷ r) u q h x e = elim x [ ]
   blocks_have_ones (suc zero ∷ r) u q h (one∷ x) e =
       let u' : List ℕ = u ++ (zeros q ++ (1 ∷ [])) in
       omega (arith, blocks_have_ones r u' 0 (omega arith) x (e ∙ simp append_assoc))

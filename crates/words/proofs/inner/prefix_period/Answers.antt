@@ -10,8 +10,8 @@ pub loop-i-init : goal.loop-i-init
 loop-i-init c =
     let a = c.args.a.now in
     elim c.if-z-a.branch [
-      then-z-a w ↦ (omega arith, omega arith, rw w.i-is (over_first a c.args.z c.requires.1 w.if-z-a.true))
-    | else-z-a w ↦ (omega arith, omega arith, rw w.i-is (scan_start a (omega arith)))
+      | then-z-a w ↦ (omega arith, omega arith, rw w.i-is (over_first a c.args.z c.requires.1 w.if-z-a.true))
+      | else-z-a w ↦ (omega arith, omega arith, rw w.i-is (scan_start a (omega arith)))
     ]
 
 pub returns-then-a-i-2 : goal.returns-then-a-i-2
@@ -24,8 +24,8 @@ loop-i-preserved c =
     let i = c.loop-i.i in
     let j = c.loop-i.j in
     elim c.if-a-i.branch [
-      then-a-i w ↦ (omega arith, omega arith, rw w.j-is (c.loop-i.invariant.2 ∙ pass_same a i j (omega arith) (omega arith) w.if-a-i.true))
-    | else-a-i+else-a-i-2 w ↦ (omega arith, omega arith, rw w.j-is (c.loop-i.invariant.2 ∙ pass_higher a i j (omega arith) (omega arith) (omega arith)))
+      | then-a-i w ↦ (omega arith, omega arith, rw w.j-is (c.loop-i.invariant.2 ∙ pass_same a i j (omega arith) (omega arith) w.if-a-i.true))
+      | else-a-i+else-a-i-2 w ↦ (omega arith, omega arith, rw w.j-is (c.loop-i.invariant.2 ∙ pass_higher a i j (omega arith) (omega arith) (omega arith)))
     ]
 
 pub returns : goal.returns
