@@ -1,14 +1,13 @@
 -- `prefix::carried::prefixes_of` meets its contract. The invariant: p is the period of the first i symbols, the entries before i are those of their prefixes,
 -- and the others are still 0.
 use mathlib.Core.List.{List, [], ◌++◌, ◌∷◌}
-use mathlib.Core.Logic.{inl, inr, ◌⊎◌, ⊎_elim}
+use mathlib.Core.Logic.{inl, inr, ◌⊎◌}
 use mathlib.Core.Path.{ap, refl, subst, sym, ◌∙◌, ◌≡◌}
 use Prim.Native.Nat.{suc, ℕ, ◌+◌, ◌-◌, ◌<◌, ◌≤◌}
 use native.Mathlib.Numerals.{add-one}
 use native.Mathlib.Omega.{arith}
 use lib.ListN.{get_or, length, length-set, set, take}
 use lib.Seq.{get_or-set_other, get_or-set_same, length-take-le, take-suc}
-use borrow.Author.Rules.{rules}
 use Rattle.prefix.specs.InnerCarried.{KnowsPrefixes}
 use Rattle.words.proofs.Below.{le_or}
 use Rattle.words.proofs.ScanMore.{barred_on, more_higher, more_lower, more_same, scan_one}
@@ -17,17 +16,9 @@ use Rattle.words.proofs.Zeros.{zero_at}
 use Rattle.words.specs.InnerScan.{coded, next, scan}
 use Rattle.words.specs.Symbols.{zeros}
 use Rattle.refusal.specs.Verdicts.{most_stations}
-use Rattle.prefix.proofs.carried.prefixes_of.Statement.{statement}
-use Rattle.prefix.proofs.carried.prefixes_of.Tie as tie
-
-record Inv (a found : List ℕ) (i j p : ℕ) : Type 0 where
-  behind : j < i
-  long : length found ≡ most_stations
-  period : p ≡ i - j
-  scans : i ≤ length a → coded p ≡ scan (take i a)
-  each : (m : ℕ) → 0 < m → m < i → m < length a → coded (get_or found m 0) ≡ scan (take m a)
-  rest : (m : ℕ) → i ≤ m → get_or found m 0 ≡ 0
-  within : (m : ℕ) → get_or found m 0 ≤ m
+use Rattle.prefix.proofs.carried.prefixes_of.Invariants.{Inv}
+use Rattle.prefix.proofs.carried.prefixes_of.Goals as goal
+use Rattle.prefix.proofs.carried.prefixes_of.Goals.{else-a-i+else-a-i-2, then-a-i}
 
 first_scan : (a : List ℕ) → 1 ≤ length a → coded 1 ≡ scan (take 1 a)
 first_scan [] h = absurd (omega arith)
@@ -146,59 +137,21 @@ module _ {a found : List ℕ} {i j p : ℕ} (v : Inv a found i j p) (h : i < len
     within = wrote_within;
   }
 
-abbrev invariant_loop : tie.invariant_loop
-invariant_loop a found₀ i₀ j₀ p₀ found i j p = Inv a found i j p
+pub loop-i-init : goal.loop-i-init
+loop-i-init c = inv_first c.args.a.now
 
-abbrev decreases_loop : tie.decreases_loop
-decreases_loop a found₀ i₀ j₀ p₀ found i j p = length a - i
+pub returns-then-a-i-2 : goal.returns-then-a-i-2
+returns-then-a-i-2 c =
+    on_lower c.loop-i.invariant (omega arith) c.requires c.if-a-i-2.true
 
-loop_holds : tie.Need-loop-init invariant_loop decreases_loop
-loop_holds c = inv_first c.args.a.now
+pub loop-i-preserved : goal.loop-i-preserved
+loop-i-preserved c =
+    elim c.if-a-i.branch [
+      | then-a-i w ↦ rw (w.j-is, w.p-is) (on_same c.loop-i.invariant (omega arith) c.requires w.if-a-i.true)
+      | else-a-i+else-a-i-2 w ↦ rw (w.j-is, w.p-is) (on_higher c.loop-i.invariant (omega arith) c.requires (omega arith))
+    ]
 
-returns : tie.Need-returns invariant_loop decreases_loop
+pub returns : goal.returns
 returns c =
-    let l = c.before.before.before.before.before.before.before in
-    let s = l.before in
-    on_lower l.loop.invariant (omega arith) s.requires c.if2.true
-
-cast_p : tie.Need-overflow-cast-p invariant_loop decreases_loop
-cast_p c = search rules
-
-add_p : tie.Need-overflow-add-p invariant_loop decreases_loop
-add_p c = search rules
-
-loop_again : tie.Need-loop-preserved invariant_loop decreases_loop
-loop_again c =
-    let l = c.before.before.before.before in
-    let s = l.before in
-    ⊎_elim
-    (λ w. rw (w.1, w.2) (on_same l.loop.invariant (omega arith) s.requires w.0.taken))
-    (λ w. rw (w.4, w.5) (on_higher l.loop.invariant (omega arith) s.requires (omega arith)))
-    c.if1.branch
-
-returns_2 : tie.Need-returns-2 invariant_loop decreases_loop
-returns_2 c =
-    let l = c.before in
-    let v = l.loop.invariant in
+    let v = c.loop-i.invariant in
     record { each = λ m h k. v.each m h (omega arith) k; within = v.within }
-
-pub prefixes_of_spec : {M : Type 1} → statement M
-prefixes_of_spec =
-    tie.close
-    (tie.spec
-    invariant_loop
-    decreases_loop
-    loop_holds
-    (λ c. search rules)
-    (λ c. search rules)
-    (λ c. search rules)
-    (λ c. search rules)
-    (λ c. search rules)
-    (λ c. search rules)
-    returns
-    cast_p
-    add_p
-    (λ c. search rules)
-    (λ c. search rules)
-    loop_again
-    returns_2)
