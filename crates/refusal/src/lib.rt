@@ -8,7 +8,7 @@ ghost use Rattle.refusal.specs.Verdicts.{are_stations};
 // The most stations of a row.
 pub const MOST_STATIONS: usize = 64;
 
-#[derive(Drop)]
+#[derive(Clone, Copy)]
 pub enum Refusal {
     // stations not 1 to 64
     Stations,
@@ -56,7 +56,7 @@ pub fn are_stations(n: usize) -> bool
 }
 
 // A refusal's number and place.
-#[derive(Drop)]
+#[derive(Clone, Copy)]
 struct Told(u8, usize);
 
 // What is told of each refusal: its place is 0 unless it names one.

@@ -6,14 +6,14 @@ pub mod symbols;
 pub mod write;
 
 // A sort of bytes: the digits, or the bytes of a line that are no spaces.
-#[derive(Drop)]
+#[derive(Clone, Copy)]
 pub enum Bytes {
     Digits,
     Unspaced,
 }
 
 // A number that was read, and the place behind it.
-#[derive(Drop)]
+#[derive(Clone, Copy)]
 pub enum Numeral {
     Number(usize, usize),
     NoNumber,
