@@ -154,7 +154,7 @@ impl Walk {
     }
 
     // The rows fit where the walk stands. The symbols before that place are known; `a` is the row's n symbols, `kept` the row kept.
-    fn fit_at_lem(self, a: &[u8], kept: &[u8], known: Known) -> bool
+    fn fit_at(self, a: &[u8], kept: &[u8], known: Known) -> bool
         requires { Fitting self × Knows (take (before self.at self.n) self.row) known × (a.now ≡ row_of self) × (kept.now ≡ self.kept) }
         ensures { result ≡ fit_at rules self.at self }
     {
@@ -220,7 +220,7 @@ impl Walk {
         let mut prefixes = prefix::carried::prefixes_of(&row[..n]);
         let m = self.before();
         let mut known = Known::read(&prefixes, &row[..m]);
-        if !self.fit_at_lem(&row[..n], &kept, known) {
+        if !self.fit_at(&row[..n], &kept, known) {
             return self.unfit();
         }
         loop {

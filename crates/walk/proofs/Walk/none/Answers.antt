@@ -6,14 +6,10 @@ use Rattle.walk.specs.Moves.{answer, moved}
 use Rattle.walk.specs.declared.Answer.TheVariants.{None}
 use Rattle.walk.specs.declared.Standing.TheVariants.{Ended}
 use Rattle.words.specs.Symbols.{zeros}
-use Rattle.walk.proofs.Walk.none.Statement.{statement}
-use Rattle.walk.proofs.Walk.none.Tie as tie
+use Rattle.walk.proofs.Walk.none.Goals as goal
 
-returns : tie.Need-returns
+pub returns : goal.returns
 returns c =
     let w = c.args.self in
     then_answer (comes_here w c.args.left c.requires.1) None _ refl refl
     (ap (λ k. answer None (moved w (zeros k) Ended)) (sym (good_long c.requires.1)) ∙ from_none w c.requires.0)
-
-pub none_spec : {M : Type 1} → statement M
-none_spec = tie.close (tie.spec returns)
