@@ -10,22 +10,21 @@ use Rattle.largest.proofs.largest_necklace.Goals as goal
 pub returns-then-not-are_stations : goal.returns-then-not-are_stations
 returns-then-not-are_stations c =
     let s = c.args in
-    let t = kept Stations s.n s.d s.out.now (no_stations s.n s.d (length s.out.now) (sym c.are_stations.ensures ∙ c.if-not-are_stations.true)) in
-    record { answer = t.0; buffer = t.1 }
+    let few = kept Stations s.n s.d s.out.now (no_stations s.n s.d (length s.out.now) (sym c.are_stations.ensures ∙ c.if-not-are_stations.true)) in
+    record { answer = few.0; buffer = few.1 }
 
 pub returns-then-n-d : goal.returns-then-n-d
 returns-then-n-d c =
     let s = c.args in
-    let e = sym c.are_stations.ensures ∙ c.if-not-are_stations.false in
-    let t = kept Holes s.n s.d s.out.now (too_many_holes s.n s.d (length s.out.now) e c.if-n-d.true) in
-    record { answer = t.0; buffer = t.1 }
+    let many = kept Holes s.n s.d s.out.now (too_many_holes s.n s.d (length s.out.now) (sym c.are_stations.ensures ∙ c.if-not-are_stations.false) c.if-n-d.true) in
+    record { answer = many.0; buffer = many.1 }
 
 pub returns-then-out-n : goal.returns-then-out-n
 returns-then-out-n c =
     let s = c.args in
     let e = sym c.are_stations.ensures ∙ c.if-not-are_stations.false in
-    let t = kept Buffer s.n s.d s.out.now (too_short s.n s.d (length s.out.now) e c.if-n-d.false c.if-out-n.true) in
-    record { answer = t.0; buffer = t.1 }
+    let short = kept Buffer s.n s.d s.out.now (too_short s.n s.d (length s.out.now) e c.if-n-d.false c.if-out-n.true) in
+    record { answer = short.0; buffer = short.1 }
 
 pub top_row-row-requires : goal.top_row-row-requires
 top_row-row-requires c =
@@ -48,5 +47,5 @@ write_front-requires c =
 pub returns : goal.returns
 returns c =
     let s = c.args in
-    let t = written s.n s.d c.top_row-row.result (sym c.are_stations.ensures ∙ c.if-not-are_stations.false) c.if-n-d.false c.top_row-row.ensures s.out.now _ c.if-out-n.false c.write_front.ensures in
-    record { answer = t.0; buffer = t.1 }
+    let found = written s.n s.d c.top_row-row.result (sym c.are_stations.ensures ∙ c.if-not-are_stations.false) c.if-n-d.false c.top_row-row.ensures s.out.now _ c.if-out-n.false c.write_front.ensures in
+    record { answer = found.0; buffer = found.1 }
