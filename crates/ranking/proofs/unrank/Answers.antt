@@ -1,5 +1,5 @@
 -- `ranking::unrank` meets its contract: each test decides as the verdict does, and the row written is the ring at the seat.
-use mathlib.Core.Logic.{inl, inr}
+use mathlib.Core.Logic.{inl, inr, ⊎_elim}
 use mathlib.Core.Path.{ap, sym, ◌∙◌, ◌≡◌}
 use native.Mathlib.Omega.{arith}
 use lib.ListN.{length}
@@ -17,7 +17,6 @@ use Rattle.refusal.specs.Verdicts.{accepted, most_stations}
 use Rattle.refusal.specs.declared.Refusal.TheVariants.{Buffer, Seat}
 use Rattle.refusal.specs.Conditions.{NotOneTo}
 use Rattle.ranking.proofs.unrank.Goals as goal
-use Rattle.ranking.proofs.unrank.Goals.{then-seat-lt1-via-then-seat-lt1, then-seat-lt1-via-else-seat-lt1+then-total-seat}
 
 -- ---- the drawer
 
@@ -60,10 +59,7 @@ pub returns-then-seat-lt1 : goal.returns-then-seat-lt1
 returns-then-seat-lt1 c =
     let e = drawn c.args.n c.args.d c.args.kind c.counted.result c.check_drawer-checked.result c.counted.ensures c.check_drawer-checked.ensures c.in-Accepted.is in
     let total = ones-rank c.args.n c.args.d c.args.kind c.rank_with-total.result (range c.args.n c.args.d c.args.kind e).sized.most c.rank_with-total.ensures.value in
-    let out : NotOneTo (ring_count c.args.n c.args.d c.args.kind) c.args.seat = elim c.then-seat-lt1.branch [
-      | then-seat-lt1-via-then-seat-lt1 w ↦ inl (omega (arith, w.if-seat-lt1.true))
-      | then-seat-lt1-via-else-seat-lt1+then-total-seat w ↦ inr (omega (arith, total, w.if-total-seat.true))
-    ] in
+    let out : NotOneTo (ring_count c.args.n c.args.d c.args.kind) c.args.seat = ⊎_elim (λ w. inl (omega arith)) (λ w. inr (omega (arith, total))) c.then-seat-lt1.either in
     let k = kept c.args.n c.args.d c.args.kind c.args.seat c.args.out.now Seat (no_seat c.args.n c.args.d c.args.kind c.args.seat (length c.args.out.now) e c.if-out-n.false out) in
     record { answer = k.0; buffer = k.1 }
 
@@ -73,14 +69,14 @@ pub necklace_at-ring-requires : goal.necklace_at-ring-requires
 necklace_at-ring-requires c =
     let e = drawn c.args.n c.args.d c.args.kind c.counted.result c.check_drawer-checked.result c.counted.ensures c.check_drawer-checked.ensures c.in-Accepted.is in
     let total = ones-rank c.args.n c.args.d c.args.kind c.rank_with-total.result (range c.args.n c.args.d c.args.kind e).sized.most c.rank_with-total.ensures.value in
-    let ok = seated c.args.n c.args.d c.args.kind c.args.seat (length c.args.out.now) e c.if-out-n.false (omega (arith, c.if-seat-lt1.false)) (omega (arith, total, c.if-total-seat.false)) in
+    let ok = seated c.args.n c.args.d c.args.kind c.args.seat (length c.args.out.now) e c.if-out-n.false (omega arith) (omega (arith, total)) in
     (c.triangle-ways.ensures, ok.1, c.rank_with-total.ensures.long)
 
 pub slice_bounds-ring-end : goal.slice_bounds-ring-end
 slice_bounds-ring-end c =
     let e = drawn c.args.n c.args.d c.args.kind c.counted.result c.check_drawer-checked.result c.counted.ensures c.check_drawer-checked.ensures c.in-Accepted.is in
     let total = ones-rank c.args.n c.args.d c.args.kind c.rank_with-total.result (range c.args.n c.args.d c.args.kind e).sized.most c.rank_with-total.ensures.value in
-    let ok = seated c.args.n c.args.d c.args.kind c.args.seat (length c.args.out.now) e c.if-out-n.false (omega (arith, c.if-seat-lt1.false)) (omega (arith, total, c.if-total-seat.false)) in
+    let ok = seated c.args.n c.args.d c.args.kind c.args.seat (length c.args.out.now) e c.if-out-n.false (omega arith) (omega (arith, total)) in
     let l : length c.necklace_at-ring.result ≡ most_stations = search rules in
     omega (arith, ok.1.few)
 
@@ -88,20 +84,20 @@ pub slice_bounds-write_front-end : goal.slice_bounds-write_front-end
 slice_bounds-write_front-end c =
     let e = drawn c.args.n c.args.d c.args.kind c.counted.result c.check_drawer-checked.result c.counted.ensures c.check_drawer-checked.ensures c.in-Accepted.is in
     let total = ones-rank c.args.n c.args.d c.args.kind c.rank_with-total.result (range c.args.n c.args.d c.args.kind e).sized.most c.rank_with-total.ensures.value in
-    let ok = seated c.args.n c.args.d c.args.kind c.args.seat (length c.args.out.now) e c.if-out-n.false (omega (arith, c.if-seat-lt1.false)) (omega (arith, total, c.if-total-seat.false)) in
+    let ok = seated c.args.n c.args.d c.args.kind c.args.seat (length c.args.out.now) e c.if-out-n.false (omega arith) (omega (arith, total)) in
     sym (ring_long c.args.n c.args.d c.args.kind c.args.seat ok.1 _ c.necklace_at-ring.ensures)
 
 pub write_front-requires : goal.write_front-requires
 write_front-requires c =
     let e = drawn c.args.n c.args.d c.args.kind c.counted.result c.check_drawer-checked.result c.counted.ensures c.check_drawer-checked.ensures c.in-Accepted.is in
     let total = ones-rank c.args.n c.args.d c.args.kind c.rank_with-total.result (range c.args.n c.args.d c.args.kind e).sized.most c.rank_with-total.ensures.value in
-    let ok = seated c.args.n c.args.d c.args.kind c.args.seat (length c.args.out.now) e c.if-out-n.false (omega (arith, c.if-seat-lt1.false)) (omega (arith, total, c.if-total-seat.false)) in
+    let ok = seated c.args.n c.args.d c.args.kind c.args.seat (length c.args.out.now) e c.if-out-n.false (omega arith) (omega (arith, total)) in
     omega (arith, ring_long c.args.n c.args.d c.args.kind c.args.seat ok.1 _ c.necklace_at-ring.ensures, c.if-out-n.false)
 
 pub returns : goal.returns
 returns c =
     let e = drawn c.args.n c.args.d c.args.kind c.counted.result c.check_drawer-checked.result c.counted.ensures c.check_drawer-checked.ensures c.in-Accepted.is in
     let total = ones-rank c.args.n c.args.d c.args.kind c.rank_with-total.result (range c.args.n c.args.d c.args.kind e).sized.most c.rank_with-total.ensures.value in
-    let ok = seated c.args.n c.args.d c.args.kind c.args.seat (length c.args.out.now) e c.if-out-n.false (omega (arith, c.if-seat-lt1.false)) (omega (arith, total, c.if-total-seat.false)) in
+    let ok = seated c.args.n c.args.d c.args.kind c.args.seat (length c.args.out.now) e c.if-out-n.false (omega arith) (omega (arith, total)) in
     let k = written c.args.n c.args.d c.args.kind c.args.seat c.args.out.now _ _ ok.0 c.necklace_at-ring.ensures c.write_front.ensures in
     record { answer = k.0; buffer = k.1 }
