@@ -8,7 +8,6 @@ use native.Mathlib.Numerals.{add-one}
 use native.Mathlib.Omega.{arith}
 use lib.ListN.{drop, get_or, length, length-append, length-drop, length-replicate, length-set, set, take}
 use lib.Seq.{drop_at, take_all, take-nil}
-use borrow.Author.Rules.{rules}
 use Rattle.density.specs.Blocks.{blocks}
 use Rattle.pitches.proofs.Blocks.{block_next, hole_behind}
 use Rattle.pitches.proofs.Positive.{Positive, no_zero, positive_at}
@@ -17,24 +16,9 @@ use Rattle.pitches.proofs.Sums.{adds→, sum_end, sum_on}
 use Rattle.pitches.specs.Pitches.{adds_up, row_of_pitches}
 use Rattle.words.proofs.Zeros.{zeros-length}
 use Rattle.words.specs.Buffers.{fronted}
-use Rattle.words.specs.Symbols.{sum, zeros}
-use Rattle.pitches.proofs.write_row.Statement.{statement}
-use Rattle.pitches.proofs.write_row.Tie as tie
-
--- O is what the buffer held as the first block was due
-record Inv (n : ℕ) (pitches O out : List ℕ) (place k : ℕ) : Type 0 where
-  inside : k ≤ length pitches
-  at : length (blocks (take k pitches)) ≡ place
-  left : 0 < length pitches → sum (drop k pitches) + place ≡ n
-  room : n ≤ length O
-  long : length out ≡ length O
-  holds : out ≡ blocks (take k pitches) ++ (zeros (n - place) ++ drop n O)
-
-abbrev invariant_loop : tie.invariant_loop
-invariant_loop n pitches out₀ place₀ k₀ out place k = Inv n pitches out₀ out place k
-
-abbrev decreases_loop : tie.decreases_loop
-decreases_loop n pitches out₀ place₀ k₀ out place k = length pitches - k
+use Rattle.words.specs.Symbols.{zeros}
+use Rattle.pitches.proofs.write_row.Invariants.{Inv}
+use Rattle.pitches.proofs.write_row.Goals as goal
 
 start : (n : ℕ) (pitches O : List ℕ) → adds_up n pitches ≡ true → n ≤ length O → O ≡ zeros n ++ drop n O → Inv n pitches O O 0 0
 unfolding blocks
@@ -91,61 +75,36 @@ module _ (n : ℕ) (O X : List ℕ) (e : X ≡ fronted (zeros n) O) (r : n ≤ l
   cleared_length : length X ≡ length O
   cleared_length = ap length e ∙ rw (length-append, length-drop, length-replicate) (omega arith)
 
-loop_holds : tie.Need-loop-init invariant_loop decreases_loop
-loop_holds c =
-    let s = c.before.before.before.before.before.before in
-    let O = s.args.out.now in
-    let n = s.args.n in
-    let e = c.before.before.clear.ensures in
-    start n s.args.pitches.now _ s.requires.1.1 (omega (arith, cleared_length n O _ e s.requires.0)) (cleared n O _ e s.requires.0)
+pub loop-k-init : goal.loop-k-init
+loop-k-init c =
+    let O = c.args.out.now in
+    let n = c.args.n in
+    let e = c.clear.ensures in
+    start n c.args.pitches.now _ c.requires.pitches_value_2 (omega (arith, cleared_length n O _ e c.requires.n_in_bounds)) (cleared n O _ e c.requires.n_in_bounds)
 
--- the next pitch has its hole, and lies within the row
-inside :
-    (c : tie.After-shared-slice-known2 invariant_loop decreases_loop) →
-    let s = c.before.before.before.before.before.before.before.before.before in
-    let l = c.before.before.loop in
-    (0 < get_or s.args.pitches.now l.k 0) × (l.place + get_or s.args.pitches.now l.k 0 ≤ s.args.n)
-inside c =
-    let s = c.before.before.before.before.before.before.before.before.before in
-    let l = c.before.before.loop in
-    within s.args.n s.args.pitches.now _ l.out l.place l.k l.invariant (omega arith) (no_zero _ s.requires.1.0)
+pub loop-k-preserved : goal.loop-k-preserved
+loop-k-preserved c =
+    let l = c.loop-k in
+    turn c.args.n c.args.pitches.now _ l.out l.place l.k l.invariant (omega arith) (no_zero _ c.requires.pitches_value)
 
-loop_again : tie.Need-loop-preserved invariant_loop decreases_loop
-loop_again c =
-    let s = c.before.before.before.before.before.before.before.before.before in
-    let l = c.before.before.loop in
-    turn s.args.n s.args.pitches.now _ l.out l.place l.k l.invariant (omega arith) (no_zero _ s.requires.1.0)
+pub shape_of-out : goal.shape_of-out
+shape_of-out c =
+    c.loop-k.invariant.long ∙ cleared_length c.args.n c.args.out.now _ c.clear.ensures c.requires.n_in_bounds
 
-same_length : tie.Need-same-length invariant_loop decreases_loop
-same_length c =
-    let s = c.before.before.before.before.before.before.before.before in
-    c.before.loop.invariant.long ∙ cleared_length s.args.n s.args.out.now _ c.before.before.before.before.clear.ensures s.requires.0
-
-returns : tie.Need-returns invariant_loop decreases_loop
+pub returns : goal.returns
 returns c =
-    let s = c.before.before.before.before.before.before.before.before in
-    let l = c.before.loop in
-    let n = s.args.n in
-    let pitches = s.args.pitches.now in
+    let l = c.loop-k in
+    let n = c.args.n in
+    let pitches = c.args.pitches.now in
     finish n pitches _ l.out l.place l.k l.invariant (omega arith)
-    ∙ ap (λ w. row_of_pitches n pitches ++ w) (behind n s.args.out.now _ c.before.before.before.before.clear.ensures s.requires.0)
-    ∙ rw (row_length n pitches s.requires.1.1)
+    ∙ ap (λ w. row_of_pitches n pitches ++ w) (behind n c.args.out.now _ c.clear.ensures c.requires.n_in_bounds)
+    ∙ rw (row_length n pitches c.requires.pitches_value_2)
 
-pub write_row_spec : {M : Type 1} → statement M
-write_row_spec =
-    tie.close
-    (tie.spec
-    invariant_loop
-    decreases_loop
-    (λ c κs. search rules)
-    loop_holds
-    (λ c. search rules)
-    (λ c. search rules)
-    (λ c. omega (arith, inside c))
-    (λ c. omega (arith, inside c))
-    (λ c. omega (arith, inside c))
-    (λ c. search rules)
-    (λ c. search rules)
-    loop_again
-    same_length
-    returns)
+pub overflow_add-place : goal.overflow_add-place
+overflow_add-place c = omega (arith, within c.args.n c.args.pitches.now _ c.loop-k.out c.loop-k.place c.loop-k.k c.loop-k.invariant (omega arith) (no_zero _ c.requires.pitches_value))
+
+pub overflow_sub-out : goal.overflow_sub-out
+overflow_sub-out c = omega (arith, within c.args.n c.args.pitches.now _ c.loop-k.out c.loop-k.place c.loop-k.k c.loop-k.invariant (omega arith) (no_zero _ c.requires.pitches_value))
+
+pub bounds-out-place : goal.bounds-out-place
+bounds-out-place c = omega (arith, within c.args.n c.args.pitches.now _ c.loop-k.out c.loop-k.place c.loop-k.k c.loop-k.invariant (omega arith) (no_zero _ c.requires.pitches_value))
