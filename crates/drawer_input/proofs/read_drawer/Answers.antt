@@ -44,6 +44,8 @@ record Lined (s : List ℕ) (n d k start size : ℕ) : Type 0 where
 lined : (s : List ℕ) {n d k start size : ℕ} → length s ≤ most_bytes → is_prefix names s ≡ true → Line n d k start size ≡ values_at s (length names) → Lined s n d k start size
 lined s f p e = record { head = record { few = f; named = p }; line = e; inside = line_inside s (length names) e }
 
+-- a line too many is refused,
+-- and the limit is not touched
 pub returns-then-end-text : goal.returns-then-end-text
 returns-then-end-text c =
     let s = c.args.text.now in
