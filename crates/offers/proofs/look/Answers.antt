@@ -1,6 +1,5 @@
 -- `offers::look` meets its contract: by the answer of the step.
 use mathlib.Core.Path.{refl}
-use borrow.Author.Rules.{rules}
 use Rattle.walk.specs.declared.Answer.TheVariants.{None, Refused, Ring}
 use Rattle.offers.proofs.Looking.{looked_as}
 use Rattle.offers.proofs.look.Goals as goal

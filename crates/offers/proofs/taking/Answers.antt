@@ -2,8 +2,7 @@
 use mathlib.Core.Bool.{true}
 use mathlib.Core.Path.{refl, sym, ◌∙◌, ◌≡◌}
 use lib.Dec.{eqb}
-use borrow.Author.Rules.{rules}
-use borrow.Author.Tests.{eq-eqb, ne_eqb, not-false, not-true}
+use borrow.Author.Tests.{eq-eqb, ne_eqb}
 use Rattle.walk_records.specs.SameWalks.{same_walk}
 use Rattle.offers.specs.InnerTaking.{offers_that}
 use Rattle.offers.specs.Offers.{offered_number}
