@@ -8,7 +8,7 @@ ghost use Rattle.refusal.specs.Verdicts.{are_stations};
 // The most stations of a row.
 pub const MOST_STATIONS: usize = 64;
 
-#[derive(Drop)]
+#[derive(Clone, Copy)]
 pub enum Refusal {
     // stations not 1 to 64
     Stations,

@@ -6,7 +6,7 @@ pub mod symbols;
 pub mod write;
 
 // A sort of bytes: the digits, or the bytes of a line that are no spaces.
-#[derive(Drop)]
+#[derive(Clone, Copy)]
 pub enum Bytes {
     Digits,
     Unspaced,
