@@ -21,14 +21,14 @@ ceiling-requires c = tabled _ _ _ _ (passes _ _ c.check_opening-checked.ensures 
 pub returns-then-kind-eq3 : goal.returns-then-kind-eq3
 returns-then-kind-eq3 c =
     let p = passes _ _ c.check_opening-checked.ensures c.in-Accepted.is in
-    rw p (ap given (ceiling_length _ _ _ _ p c.ceiling.result (omega (arith, c.if-kind-eq3.true)) (omega (arith, c.ceiling.ensures))))
+    rw p (ap given (ceiling_length _ _ _ _ p c.ceiling.result (omega arith) (omega (arith, c.ceiling.ensures))))
 
 pub rank_of-requires : goal.rank_of-requires
 rank_of-requires c =
     let p = passes _ _ c.check_opening-checked.ensures c.in-Accepted.is in
-    (limit_given _ _ _ _ p, counted _ _ _ _ p (λ k. omega (arith, k, c.if-kind-eq3.false)))
+    (limit_given _ _ _ _ p, counted _ _ _ _ p (λ k. omega arith))
 
 pub returns : goal.returns
 returns c =
     let p = passes _ _ c.check_opening-checked.ensures c.in-Accepted.is in
-    rw p (ap given (rank-length _ _ _ _ p c.rank_of.result (λ k. omega (arith, k, c.if-kind-eq3.false)) (omega (arith, c.rank_of.ensures))))
+    rw p (ap given (rank-length _ _ _ _ p c.rank_of.result (λ k. omega arith) (omega (arith, c.rank_of.ensures))))
