@@ -13,91 +13,80 @@ use Rattle.walk.specs.Moves.{free, moved, row_of}
 use Rattle.walk.specs.declared.Standing.TheVariants.{Down, Up}
 use Rattle.words.proofs.Alphabet.{within_take}
 use Rattle.words.specs.Symbols.{Within}
+use mathlib.Core.Bool.{Bool}
+use Prim.Native.Nat.{ℕ}
+use Rattle.density.specs.Necklaces.{is_necklace_of}
+use Rattle.walk.specs.InnerCourse.{Good}
+use Rattle.walk.specs.Moves.{rules}
+use Rattle.walk.specs.declared.Standing.TheVariants.{Limit}
+use Rattle.walk.specs.declared.Walk.{Walk}
 use Rattle.walk.proofs.Walk.from_limit.Goals as goal
 
+module _ {w : Walk} (g : Good rules w) where
+  inside : w.n ≤ length w.row
+  inside = omega (arith, good_long g, g.sound.most)
+
+  whole : length (row_of w) ≡ w.n
+  whole = length-take-le w.n w.row inside
+
+  symbols : Within 2 (row_of w)
+  symbols = within_take w.n w.row (good_symbols g)
+
+-- whether the limit is a necklace of the drawer decides the first move
+module _ {w : Walk} (at : w.at ≡ Limit) (g : Good rules w) (left : ℕ) {r : Bool} (e : r ≡ is_necklace_of w.d (row_of w)) where
+  -- it is found
+  found : r ≡ true → Comes w left (moved w w.row (Up (w.n + 1))) left
+  found t =
+      let m : w.n + 1 ≡ suc w.n = omega arith in
+      then_free (comes_here w left g) w.row (Up (w.n + 1)) (ap (λ t. free (moved w w.row (Up t))) m ∙ from_limit w at true (sym e ∙ t))
+
+  -- it is looked below
+  below : r ≡ false → Comes w left (moved w w.row (Down w.n)) left
+  below t = then_free (comes_here w left g) w.row (Down w.n) (from_limit w at false (sym e ∙ t))
+
 pub slice_bounds-row-end : goal.slice_bounds-row-end
-slice_bounds-row-end c =
-    let inside : c.args.self.n ≤ length c.args.self.row = omega (arith, good_long c.requires.1, c.requires.1.sound.most) in
-    inside
+slice_bounds-row-end c = inside c.requires.1
 
 pub slice_bounds-is_necklace_of-end : goal.slice_bounds-is_necklace_of-end
-slice_bounds-is_necklace_of-end c =
-    let inside : c.args.self.n ≤ length c.args.self.row = omega (arith, good_long c.requires.1, c.requires.1.sound.most) in
-    let whole : length (row_of c.args.self) ≡ c.args.self.n = length-take-le c.args.self.n c.args.self.row inside in
-    sym whole
+slice_bounds-is_necklace_of-end c = sym (whole c.requires.1)
 
 pub is_necklace_of-requires : goal.is_necklace_of-requires
-is_necklace_of-requires c =
-    let inside : c.args.self.n ≤ length c.args.self.row = omega (arith, good_long c.requires.1, c.requires.1.sound.most) in
-    let whole : length (row_of c.args.self) ≡ c.args.self.n = length-take-le c.args.self.n c.args.self.row inside in
-    let symbols : Within 2 (row_of c.args.self) = within_take c.args.self.n c.args.self.row (good_symbols c.requires.1) in
-    (omega (arith, whole, c.requires.1.sound.some), symbols, c.requires.3)
+is_necklace_of-requires c = (omega (arith, whole c.requires.1, c.requires.1.sound.some), symbols c.requires.1, c.requires.3)
 
 pub overflow_add-beyond : goal.overflow_add-beyond
 overflow_add-beyond c = omega (arith, c.requires.1.sound.most)
 
 pub slice_bounds-row-end-then-is_necklace_of : goal.slice_bounds-row-end-then-is_necklace_of
-slice_bounds-row-end-then-is_necklace_of c =
-    let inside : c.args.self.n ≤ length c.args.self.row = omega (arith, good_long c.requires.1, c.requires.1.sound.most) in
-    inside
+slice_bounds-row-end-then-is_necklace_of c = inside c.requires.1
 
 pub slice_bounds-found-end : goal.slice_bounds-found-end
-slice_bounds-found-end c =
-    let inside : c.args.self.n ≤ length c.args.self.row = omega (arith, good_long c.requires.1, c.requires.1.sound.most) in
-    let whole : length (row_of c.args.self) ≡ c.args.self.n = length-take-le c.args.self.n c.args.self.row inside in
-    sym whole
+slice_bounds-found-end c = sym (whole c.requires.1)
 
 pub found-requires : goal.found-requires
-found-requires c =
-    let found : Comes c.args.self c.args.left (moved c.args.self c.args.self.row (Up (c.args.self.n + 1))) c.args.left = let w = c.args.self in
-    let m : w.n + 1 ≡ suc w.n = omega arith in
-    then_free (comes_here w c.args.left c.requires.1) w.row (Up (w.n + 1))
-    (ap (λ t. free (moved w w.row (Up t))) m ∙ from_limit w c.requires.0 true (sym c.is_necklace_of.ensures ∙ c.if-is_necklace_of.true)) in
-    (refl, found.good, refl, c.requires.3)
+found-requires c = (refl, (found c.requires.0 c.requires.1 c.args.left c.is_necklace_of.ensures c.if-is_necklace_of.true).good, refl, c.requires.3)
 
 pub returns-then-is_necklace_of : goal.returns-then-is_necklace_of
-returns-then-is_necklace_of c =
-    let found : Comes c.args.self c.args.left (moved c.args.self c.args.self.row (Up (c.args.self.n + 1))) c.args.left = let w = c.args.self in
-    let m : w.n + 1 ≡ suc w.n = omega arith in
-    then_free (comes_here w c.args.left c.requires.1) w.row (Up (w.n + 1))
-    (ap (λ t. free (moved w w.row (Up t))) m ∙ from_limit w c.requires.0 true (sym c.is_necklace_of.ensures ∙ c.if-is_necklace_of.true)) in
-    then_part found _ c.found.ensures
+returns-then-is_necklace_of c = then_part (found c.requires.0 c.requires.1 c.args.left c.is_necklace_of.ensures c.if-is_necklace_of.true) _ c.found.ensures
 
 pub slice_bounds-row-end-2 : goal.slice_bounds-row-end-2
-slice_bounds-row-end-2 c =
-    let inside : c.args.self.n ≤ length c.args.self.row = omega (arith, good_long c.requires.1, c.requires.1.sound.most) in
-    inside
+slice_bounds-row-end-2 c = inside c.requires.1
 
 pub slice_bounds-shorter-end : goal.slice_bounds-shorter-end
-slice_bounds-shorter-end c =
-    let inside : c.args.self.n ≤ length c.args.self.row = omega (arith, good_long c.requires.1, c.requires.1.sound.most) in
-    let whole : length (row_of c.args.self) ≡ c.args.self.n = length-take-le c.args.self.n c.args.self.row inside in
-    sym whole
+slice_bounds-shorter-end c = sym (whole c.requires.1)
 
 pub shorter-before-requires : goal.shorter-before-requires
-shorter-before-requires c =
-    let inside : c.args.self.n ≤ length c.args.self.row = omega (arith, good_long c.requires.1, c.requires.1.sound.most) in
-    let whole : length (row_of c.args.self) ≡ c.args.self.n = length-take-le c.args.self.n c.args.self.row inside in
-    let symbols : Within 2 (row_of c.args.self) = within_take c.args.self.n c.args.self.row (good_symbols c.requires.1) in
-    (omega (arith, whole, c.requires.1.sound.most), symbols, c.requires.3, c.requires.2)
+shorter-before-requires c = (omega (arith, whole c.requires.1, c.requires.1.sound.most), symbols c.requires.1, c.requires.3, c.requires.2)
 
 pub descend-requires : goal.descend-requires
 descend-requires c =
-    let inside : c.args.self.n ≤ length c.args.self.row = omega (arith, good_long c.requires.1, c.requires.1.sound.most) in
-    let whole : length (row_of c.args.self) ≡ c.args.self.n = length-take-le c.args.self.n c.args.self.row inside in
-    let below : Comes c.args.self c.args.left (moved c.args.self c.args.self.row (Down c.args.self.n)) c.args.left = let w = c.args.self in
-    then_free (comes_here w c.args.left c.requires.1) w.row (Down w.n) (from_limit w c.requires.0 false (sym c.is_necklace_of.ensures ∙ c.if-is_necklace_of.false)) in
     let w = c.args.self in
     let a = row_of w in
-    let front : take (length a - 1) a ≡ take (w.n - 1) w.row = rw whole (take-take (w.n - 1) w.n w.row (omega arith)) in (
+    let front : take (length a - 1) a ≡ take (w.n - 1) w.row = rw (whole c.requires.1) (take-take (w.n - 1) w.n w.row (omega arith)) in (
       refl,
-      below.good,
+      (below c.requires.0 c.requires.1 c.args.left c.is_necklace_of.ensures c.if-is_necklace_of.false).good,
       subst (λ a. KnowsPrefixes a c.args.prefixes.now) front (knows_fewer a c.args.prefixes.now (length a - 1) (omega arith) c.requires.2),
       subst (λ a. Knows a c.shorter-before.result) front c.shorter-before.ensures,
     )
 
 pub returns : goal.returns
-returns c =
-    let below : Comes c.args.self c.args.left (moved c.args.self c.args.self.row (Down c.args.self.n)) c.args.left = let w = c.args.self in
-    then_free (comes_here w c.args.left c.requires.1) w.row (Down w.n) (from_limit w c.requires.0 false (sym c.is_necklace_of.ensures ∙ c.if-is_necklace_of.false)) in
-    then_part below _ c.descend.ensures
+returns c = then_part (below c.requires.0 c.requires.1 c.args.left c.is_necklace_of.ensures c.if-is_necklace_of.false) _ c.descend.ensures
