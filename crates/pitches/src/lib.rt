@@ -12,7 +12,7 @@ ghost use Rattle.refusal.specs.Outcomes.{decide, filled};
 use refusal::Refusal;
 
 // Whether the row of a pitch list was written.
-#[derive(Drop)]
+#[derive(Clone, Copy)]
 pub enum RowAnswer {
     Written,
     Refused(Refusal),
