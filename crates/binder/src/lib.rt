@@ -15,34 +15,34 @@ use walk::Walk;
 pub const NAMES: usize = 8;
 
 // What stands under a name: a walk, if one was put.
-#[derive(Drop)]
+#[derive(Clone, Copy)]
 pub struct Bookmark {
     pub put: bool,
     pub walk: Walk,
 }
 
 // A binder, taken in and handed back by each put.
-#[derive(Drop)]
+#[derive(Clone, Copy)]
 pub struct Binder {
     pub bookmarks: [Bookmark; NAMES],
 }
 
 // What a put or a fetch says.
-#[derive(Drop)]
+#[derive(Clone, Copy)]
 pub enum BinderAnswer {
     Done,
     Refused(Refusal),
 }
 
 // What a put hands back.
-#[derive(Drop)]
+#[derive(Clone, Copy)]
 pub struct Filed {
     pub binder: Binder,
     pub answer: BinderAnswer,
 }
 
 // What a fetch hands back.
-#[derive(Drop)]
+#[derive(Clone, Copy)]
 pub struct Fetched {
     pub walk: Walk,
     pub answer: BinderAnswer,

@@ -14,7 +14,7 @@ use walk::Walk;
 pub const OFFERS: usize = 4;
 
 // The walk that stands, with its page; the offers held; the binder and the log of its puts; and what was counted.
-#[derive(Drop)]
+#[derive(Clone, Copy)]
 pub struct Held {
     pub stand: Stand,
     pub offers: [Made; OFFERS],

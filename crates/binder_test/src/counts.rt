@@ -6,7 +6,7 @@ use walk::Walk;
 // Calls by what they say: openings, steps that give a ring or none, looks that give either, takes accepted, puts and
 // fetches done, and refusals. The sums of trials told, of places carried, and of the rows handed back and offered as
 // numbers; and what differed. No number goes above a billion.
-#[derive(Drop)]
+#[derive(Clone, Copy)]
 pub struct Counts {
     pub calls: usize,
     pub answers: [usize; 13],

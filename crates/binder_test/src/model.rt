@@ -7,7 +7,7 @@ use walk::Walk;
 pub const PUTS: usize = 50;
 
 // A drawer and its book as it stands. The book of a record at random isn't known.
-#[derive(Drop)]
+#[derive(Clone, Copy)]
 pub struct Page {
     pub known: bool,
     pub n: usize,
@@ -17,14 +17,14 @@ pub struct Page {
 }
 
 // A walk, with its page.
-#[derive(Drop)]
+#[derive(Clone, Copy)]
 pub struct Stand {
     pub walk: Walk,
     pub page: Page,
 }
 
 // A put: the name, whether it was accepted, and what was put.
-#[derive(Drop)]
+#[derive(Clone, Copy)]
 pub struct Entry {
     pub name: usize,
     pub accepted: bool,
@@ -32,7 +32,7 @@ pub struct Entry {
 }
 
 // The puts so far.
-#[derive(Drop)]
+#[derive(Clone, Copy)]
 pub struct Log {
     pub entries: [Entry; PUTS],
     pub size: usize,

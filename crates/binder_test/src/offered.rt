@@ -6,7 +6,7 @@ use test_calls::Told;
 use walk::{Standing, Walk};
 
 // An offer that was made, and the page whose next line, or none, it offers.
-#[derive(Drop)]
+#[derive(Clone, Copy)]
 pub struct Made {
     pub offer: Offer,
     pub page: Page,

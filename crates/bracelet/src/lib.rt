@@ -12,7 +12,7 @@ use refusal::Refusal;
 
 pub mod inner;
 
-#[derive(Drop)]
+#[derive(Clone, Copy)]
 pub enum TurnedAnswer {
     Written,
     Refused(Refusal),

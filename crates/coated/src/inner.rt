@@ -25,7 +25,7 @@ pub fn is_rotation(row: &[u8], j: usize, other: &[u8]) -> bool
 }
 
 // The signed turn from one row to another, the nearest to zero, if there is one.
-#[derive(Drop)]
+#[derive(Clone, Copy)]
 pub enum Turn {
     By(i64),
     Never,

@@ -11,7 +11,7 @@ use refusal::Refusal;
 pub mod inner;
 
 // How the first row fits the second, with the signed turn from the one to the other, the nearest to zero.
-#[derive(Drop)]
+#[derive(Clone, Copy)]
 pub enum FitAnswer {
     Different,
     // by turning only

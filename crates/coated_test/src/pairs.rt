@@ -14,7 +14,7 @@ fn byte(sort: usize, i: usize) -> u8 {
     }
 }
 
-#[derive(Drop)]
+#[derive(Clone, Copy)]
 struct Numbered {
     row: [u8; refusal::MOST_STATIONS],
     n: usize,
@@ -136,7 +136,7 @@ fn answer_due(
     std::num::wrapping_add_usize(OVER, over)
 }
 
-#[derive(Drop)]
+#[derive(Clone, Copy)]
 struct Compared {
     answer: usize,
     agrees: bool,

@@ -72,7 +72,7 @@ fn agrees(a: &[u8], b: &[u8], compared: Compared) -> bool {
 }
 
 // Comparisons of two rows: how many agree with plain search, how many say higher, and the sums of their places and pairs.
-#[derive(Drop)]
+#[derive(Clone, Copy)]
 pub struct Tally {
     pub agreed: usize,
     pub higher: usize,

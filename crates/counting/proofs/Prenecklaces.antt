@@ -6,7 +6,7 @@ use Prim.Native.Nat.{suc, zero, ℕ, ◌+◌, ◌<◌, ◌≤◌}
 use native.Mathlib.Omega.{arith}
 use lib.ListN.{length, length-append}
 use Rattle.counting.specs.InnerBound.{passes}
-use Rattle.density.proofs.Binary.{Binary, binary_snoc, one∷, zero∷}
+use Rattle.density.proofs.Binary.{Binary, binary_snoc, empty, one∷, zero∷}
 use Rattle.words.proofs.AtMost.{not_both}
 use Rattle.words.proofs.Below.{◌≺◌}
 use Rattle.words.proofs.Cut.{cut}
@@ -52,6 +52,8 @@ passes_is (b ∷ a) h = go (scan_is b a)
 
 -- a row with 1 behind it is below a row of zeros and ones: it is so without the 1
 not_last : (r : List ℕ) {w : List ℕ} → Binary w → ◌≪◌ (r ▹ 1) w → ◌≪◌ r w
+not_last [] empty h = elim h [ ]
+not_last (c ∷ r) empty h = elim h [ ]
 not_last [] (zero∷ b) (at_head h) = absurd (omega arith)
 not_last [] (one∷ b) (at_head h) = absurd (omega arith)
 not_last [] (one∷ b) (in_tail h) = absurd (omega (arith, ≪-left h))

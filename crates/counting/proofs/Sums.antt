@@ -14,7 +14,7 @@ use Rattle.words.proofs.Below.{≺_irrefl}
 use Rattle.words.proofs.Booleans.{never, same_test}
 use Rattle.words.proofs.Falling.{falls_below}
 use Rattle.words.proofs.OrderTests.{same→, →same}
-use Rattle.words.specs.Falling.{Falling, falls_from}
+use Rattle.words.specs.Falling.{Falling, falls_from, falls_none}
 use Rattle.words.specs.Order.{same}
 use Rattle.words.specs.Tests.{keep}
 
@@ -119,6 +119,7 @@ delta_comm a b = delta_iff a b b a sym sym
 -- f at the one row that is y
 pub once : (f : List ℕ → ℕ) (y : List ℕ) {l : List (List ℕ)} → Falling l → Memᴰ y l → total (λ x. f x * delta x y) l ≡ f y
 unfolding total
+once f y falls_none m = elim m [ ]
 once f y (falls_from {w = w} {l = l} h g) (Memᴰ.head e) =
     let rest : total (λ x. f x * delta x y) l ≡ 0 = total_zero (λ x. f x * delta x y) l (λ x m. rw (delta_differ x y (λ q. ≺_irrefl (rw (← e, ← q) at (falls_below (falls_from h g) x m)))) (mul-zero (f x))) in
     rw (rest, ← e, delta_same y) (omega arith)

@@ -6,7 +6,7 @@ use crate::kinds::is_kind;
 use refusal::{Refusal, are_stations};
 
 // Whether a drawer, or a drawer and a limit, meet no condition for the input.
-#[derive(Drop)]
+#[derive(Clone, Copy)]
 pub enum Checked {
     Accepted,
     Refused(Refusal),

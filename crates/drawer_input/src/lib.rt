@@ -15,14 +15,14 @@ pub const MOST_BYTES: usize = 256;
 const NAMES: usize = 26;
 
 // A line of values: stations, holes, kind, and where the limit starts and how long it is.
-#[derive(Drop)]
+#[derive(Clone, Copy)]
 pub enum Values {
     Line(usize, usize, usize, usize, usize),
     NoLine,
 }
 
 // What the program is asked: stations, holes, kind and the length of the limit.
-#[derive(Drop)]
+#[derive(Clone, Copy)]
 pub enum Request {
     Drawer(usize, usize, usize, usize),
     Refused(Refusal),

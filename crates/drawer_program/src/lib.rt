@@ -13,7 +13,7 @@ use drawer_input::MOST_BYTES;
 use printing::Printing;
 
 // Where a printing has come to, and whether every piece of it was taken.
-#[derive(Drop)]
+#[derive(Clone, Copy)]
 pub struct Handed {
     pub state: Printing,
     pub taken: bool,

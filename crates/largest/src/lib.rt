@@ -11,7 +11,7 @@ ghost use Rattle.refusal.specs.Verdicts.{most_stations};
 use refusal::{Refusal, are_stations};
 
 // The answer to the question of the top ring.
-#[derive(Drop)]
+#[derive(Clone, Copy)]
 pub enum Top {
     Written,
     Refused(Refusal),

@@ -15,7 +15,7 @@ use pascal::Answer;
 use refusal::Refusal;
 
 // How many rings a walk has to give.
-#[derive(Drop)]
+#[derive(Clone, Copy)]
 pub enum Length {
     Exactly(u64),
     AtMost(u64),

@@ -3,7 +3,7 @@ use lengths::Length;
 use test_rows::openings;
 
 // How many rings, or 0; beside it 0 for an exact length, the refusal as a number, or what stands for a ceiling.
-#[derive(Drop)]
+#[derive(Clone, Copy)]
 pub struct Told {
     pub number: usize,
     pub rings: usize,

@@ -2,7 +2,7 @@
 use crate::{counted, printed, walked};
 
 // What was compared in a drawer, and how much of it agreed; beside it a sum.
-#[derive(Drop)]
+#[derive(Clone, Copy)]
 pub struct Tally {
     pub compared: usize,
     pub agreed: usize,

@@ -3,7 +3,7 @@ use crate::asked;
 use test_rows::{cases, openings};
 
 // What was told, and whether it was due.
-#[derive(Drop)]
+#[derive(Clone, Copy)]
 struct Outcome {
     told: usize,
     agrees: bool,

@@ -187,6 +187,7 @@ over_left (a ∷ more) = over_left more
 
 pub said→left : (steps : List ℕ) {l : Listing} → Remaining l → SaysNone (listing_answers l steps) → listing_left l steps ≡ over
 unfolding listing_answers listing_left
+said→left [] h s = elim s [ ]
 said→left (a ∷ more) {l} h s = go refl s (said→left more (step_remaining h a))
   where
     go : {t : Told} → (listing_step l a).tells ≡ t → SaysNone (t ∷ listing_answers (listing_step l a).left more)

@@ -20,6 +20,8 @@ over_totals (a ∷ more) made = over_totals more (made + 0)
 pub listing-totals : (allowances : List ℕ) (made : ℕ) (l : Listing) → Closed l → Starts (totals made (listing_answers l allowances)) (raise made l)
 unfolding totals listing_answers listing_step
 listing-totals [] made l c = at_once
+listing-totals (a ∷ more) made over c = elim c [ ]
+listing-totals (a ∷ more) made (entry none p (entry _ _ _)) c = elim c [ ]
 listing-totals (a ∷ more) made (entry none p over) last = go (ltb a p) refl (listing-totals more (made + a) (entry none (p - a) over) last)
   where
     go : (b : Bool) → ltb a p ≡ b → Starts (totals (made + a) (listing_answers (entry none (p - a) over) more)) (entry none (made + a + (p - a)) over)

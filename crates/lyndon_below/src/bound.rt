@@ -6,7 +6,7 @@ ghost use Rattle.pascal.specs.Pascal.{last_row};
 ghost use Rattle.words.specs.InnerScan.{scan};
 
 // A row, or none.
-#[derive(Drop)]
+#[derive(Clone, Copy)]
 pub struct Bound {
     pub found: bool,
     pub row: [u8; refusal::MOST_STATIONS],

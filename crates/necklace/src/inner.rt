@@ -6,7 +6,7 @@ ghost use Rattle.words.specs.Rotation.{least_index, period, rotation};
 use words::Order;
 
 // The number of a row's least rotation, and the row's period.
-#[derive(Drop)]
+#[derive(Clone, Copy)]
 pub struct Least {
     pub index: usize,
     pub period: usize,

@@ -11,14 +11,14 @@ use refusal::Refusal;
 
 pub mod inner;
 
-#[derive(Drop)]
+#[derive(Clone, Copy)]
 pub enum KeyAnswer {
     // the number of the least rotation, and the period
     Found { rotation: usize, period: usize },
     Refused(Refusal),
 }
 
-#[derive(Drop)]
+#[derive(Clone, Copy)]
 pub enum ClassAnswer {
     // whether the row is a necklace, and whether it is a Lyndon word
     Of { necklace: bool, lyndon: bool },

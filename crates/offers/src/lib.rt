@@ -11,7 +11,7 @@ use refusal::Refusal;
 use walk::{Answer, Stepped, Walk};
 
 // What is offered: a ring, which is the row of the offer's walk, or none.
-#[derive(Drop)]
+#[derive(Clone, Copy)]
 pub enum Offered {
     Ring,
     None,
@@ -19,7 +19,7 @@ pub enum Offered {
 
 // An offer: what a look gave, the allowance that it had, and the walk as it would be. Any record may be handed in as
 // one.
-#[derive(Drop)]
+#[derive(Clone, Copy)]
 pub struct Offer {
     pub offered: Offered,
     pub allowance: u64,
@@ -27,7 +27,7 @@ pub struct Offer {
 }
 
 // What a look hands back: the walk as it was, a step's answer with its place and its trials, and the offer.
-#[derive(Drop)]
+#[derive(Clone, Copy)]
 pub struct Looked {
     pub walk: Walk,
     pub answer: Answer,

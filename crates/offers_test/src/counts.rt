@@ -7,7 +7,7 @@ use walk::Walk;
 
 // Calls by what they say: a ring, none, 20, 21, 22 and 24. The sums of trials, of places carried, and of the rows
 // handed back and offered as numbers; and what differed. No number goes above a billion.
-#[derive(Drop)]
+#[derive(Clone, Copy)]
 pub struct Counts {
     pub answers: [usize; 6],
     pub trials: usize,

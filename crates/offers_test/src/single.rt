@@ -5,7 +5,7 @@ use test_rows::cases;
 use walk::{Standing, Walk};
 
 // The walk that stands, and the offer held.
-#[derive(Drop)]
+#[derive(Clone, Copy)]
 struct Held {
     walk: Walk,
     offer: Offer,

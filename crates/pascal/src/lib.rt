@@ -18,7 +18,7 @@ pub const LAST_ROW: usize = 64;
 pub const ENTRIES: usize = 2145;
 
 // How many ways there are.
-#[derive(Drop)]
+#[derive(Clone, Copy)]
 pub enum Answer {
     Ways(u64),
     Refused(Refusal),

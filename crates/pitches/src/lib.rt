@@ -19,7 +19,7 @@ pub enum RowAnswer {
 }
 
 // How many pitches were written.
-#[derive(Drop)]
+#[derive(Clone, Copy)]
 pub enum ListAnswer {
     Listed(usize),
     Refused(Refusal),

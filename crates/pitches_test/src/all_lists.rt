@@ -89,7 +89,7 @@ fn place_told(answer: RowAnswer) -> usize {
 }
 
 // What a call told, and whether answer and buffer are those of plain search.
-#[derive(Drop)]
+#[derive(Clone, Copy)]
 struct Outcome {
     number: usize,
     place: usize,

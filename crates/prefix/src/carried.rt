@@ -10,7 +10,7 @@ ghost use Rattle.refusal.specs.Verdicts.{most_stations};
 use extension::{goes_on, ruled_out, search_from};
 
 // What is known of some symbols: their period (0: they begin no necklace), their ones, and with how many zeros they begin.
-#[derive(Drop)]
+#[derive(Clone, Copy)]
 pub struct Known {
     period: usize,
     ones: usize,

@@ -12,7 +12,7 @@ use carried::Known;
 use refusal::Refusal;
 
 // Yes or no, or a refusal.
-#[derive(Drop)]
+#[derive(Clone, Copy)]
 pub enum PrefixAnswer {
     Answered(bool),
     Refused(Refusal),

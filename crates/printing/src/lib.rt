@@ -15,7 +15,7 @@ use refusal::Refusal;
 use walk::Walk;
 
 // What is due next: a refusal, the names, a ring or the end, or nothing.
-#[derive(Drop)]
+#[derive(Clone, Copy)]
 pub enum Due {
     Refused(Refusal),
     Header,
@@ -24,7 +24,7 @@ pub enum Due {
 }
 
 // A text that is being printed: the walk, how many rings were printed, and what is due.
-#[derive(Drop)]
+#[derive(Clone, Copy)]
 pub struct Printing {
     pub walk: Walk,
     pub number: u64,
@@ -32,7 +32,7 @@ pub struct Printing {
 }
 
 // What filling a buffer hands back: the printing behind it, how many bytes were written, and whether that was all.
-#[derive(Drop)]
+#[derive(Clone, Copy)]
 pub struct Filled {
     pub state: Printing,
     pub used: usize,

@@ -3,7 +3,7 @@ ghost use Rattle.std.specs.Prelude.{◌≡◌, ◌<◌, ◌≤◌, ◌*◌, leng
 ghost use Rattle.refusal.specs.Verdicts.{most_stations};
 
 // An input: stations, holes and kind, a limit of the last `size` binary digits of a number, and a wrong byte at a place of it, or at none.
-#[derive(Drop)]
+#[derive(Clone, Copy)]
 pub struct Case {
     pub n: usize,
     pub d: usize,

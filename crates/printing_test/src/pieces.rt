@@ -81,7 +81,7 @@ fn agree(start: Printing, due: &[u8], room: usize) -> bool
 // ---- what was compared
 
 // How many texts were compared and agreed, their bytes, and a sum of checks of them. No count goes above a billion.
-#[derive(Drop)]
+#[derive(Clone, Copy)]
 pub struct Tally {
     pub compared: usize,
     pub agreed: usize,

@@ -7,7 +7,7 @@ use printing::Printing;
 
 // Document 01's example: its first k bytes; with another byte in its names; with k bytes behind it; with a limit of k ones. Openings of every
 // refusal. All drawers of n stations. One drawer (n, d) of a kind. States that no start hands out.
-#[derive(Drop)]
+#[derive(Clone, Copy)]
 pub enum Set {
     Cut,
     Name,
@@ -133,7 +133,7 @@ fn append_due(text: &mut [u8], set: Set, k: usize) -> usize
 }
 
 // The lengths of the first and of the last buffer that a text is printed in.
-#[derive(Drop)]
+#[derive(Clone, Copy)]
 struct Rooms {
     first: usize,
     last: usize,

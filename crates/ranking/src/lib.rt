@@ -13,14 +13,14 @@ use density::drawers::{Checked, check_drawer, check_opening};
 use refusal::Refusal;
 
 // The seat of a row.
-#[derive(Drop)]
+#[derive(Clone, Copy)]
 pub enum Seat {
     Number(u64),
     Refused(Refusal),
 }
 
 // The answer to a seat number.
-#[derive(Drop)]
+#[derive(Clone, Copy)]
 pub enum Seated {
     Written,
     Refused(Refusal),

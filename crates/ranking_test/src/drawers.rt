@@ -2,7 +2,7 @@
 use crate::{counted, seats, walked};
 
 // What was compared in a drawer, and how much of it agreed; beside it a sum.
-#[derive(Drop)]
+#[derive(Clone, Copy)]
 pub struct Tally {
     pub compared: u64,
     pub agreed: u64,

@@ -20,7 +20,7 @@ fn ring_told(seated: Seated) -> usize {
 }
 
 // What was told, and whether it was due.
-#[derive(Drop)]
+#[derive(Clone, Copy)]
 struct Outcome {
     told: usize,
     agrees: bool,

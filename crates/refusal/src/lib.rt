@@ -56,7 +56,7 @@ pub fn are_stations(n: usize) -> bool
 }
 
 // A refusal's number and place.
-#[derive(Drop)]
+#[derive(Clone, Copy)]
 struct Told(u8, usize);
 
 // What is told of each refusal: its place is 0 unless it names one.

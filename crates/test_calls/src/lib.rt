@@ -5,7 +5,7 @@ use offers::{Offer, Offered};
 use walk::Walk;
 
 // What is said and handed back: a ring 0, none 1, or the refusal's number.
-#[derive(Drop)]
+#[derive(Clone, Copy)]
 pub struct Told {
     pub walk: Walk,
     pub said: u8,
@@ -14,7 +14,7 @@ pub struct Told {
 }
 
 // What a look says and hands back, and its offer.
-#[derive(Drop)]
+#[derive(Clone, Copy)]
 pub struct Seen {
     pub told: Told,
     pub offer: Offer,

@@ -51,7 +51,7 @@ pub fn kind(i: usize) -> u8 {
 }
 
 // A row of ones, of some length, with a wrong byte at a place, or at none (0).
-#[derive(Drop)]
+#[derive(Clone, Copy)]
 pub struct Row {
     pub bytes: [u8; 80],
     pub length: usize,

@@ -3,7 +3,7 @@ ghost use Rattle.std.specs.Prelude.{◌<◌, ◌≤◌, ◌+◌, ◌*◌};
 
 // What is next in the book: a line's number or none, which has number 0, the number of the row it is measured from, and the trials owed
 // to it. A line is measured from the one given before it, the first from the limit. After none nothing is to come.
-#[derive(Drop)]
+#[derive(Clone, Copy)]
 pub struct Book {
     pub number: usize,
     pub kept: usize,

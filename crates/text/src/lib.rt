@@ -13,7 +13,7 @@ pub enum Bytes {
 }
 
 // A number that was read, and the place behind it.
-#[derive(Drop)]
+#[derive(Clone, Copy)]
 pub enum Numeral {
     Number(usize, usize),
     NoNumber,

@@ -17,7 +17,7 @@ use prefix::carried::Known;
 use refusal::Refusal;
 
 // Where a walk stands.
-#[derive(Drop)]
+#[derive(Clone, Copy)]
 pub enum Standing {
     Limit,
     Down(usize),
@@ -28,7 +28,7 @@ pub enum Standing {
 
 // A walk: length, density, kind, the row, the standing, and the row kept, from which the next ring is measured: the limit, then the ring
 // last given. It is taken in and handed back by each step.
-#[derive(Drop)]
+#[derive(Clone, Copy)]
 pub struct Walk {
     pub n: usize,
     pub d: usize,
@@ -39,7 +39,7 @@ pub struct Walk {
 }
 
 // What a step says. A ring is the walk's row.
-#[derive(Drop)]
+#[derive(Clone, Copy)]
 pub enum Answer {
     Ring,
     None,
@@ -47,7 +47,7 @@ pub enum Answer {
 }
 
 // What a step hands back. The place is where a ring leaves the row that was kept; it is 0 where they are equal and where no ring is given.
-#[derive(Drop)]
+#[derive(Clone, Copy)]
 pub struct Stepped {
     pub walk: Walk,
     pub answer: Answer,
@@ -56,21 +56,21 @@ pub struct Stepped {
 }
 
 // Whether a walk was opened.
-#[derive(Drop)]
+#[derive(Clone, Copy)]
 pub enum OpenAnswer {
     Open,
     Refused(Refusal),
 }
 
 // What opening hands back.
-#[derive(Drop)]
+#[derive(Clone, Copy)]
 pub struct Opened {
     pub walk: Walk,
     pub answer: OpenAnswer,
 }
 
 // What a part of a step says: nothing, or the step's answer.
-#[derive(Drop)]
+#[derive(Clone, Copy)]
 pub enum Said {
     Nothing,
     Ring,
@@ -79,7 +79,7 @@ pub enum Said {
 }
 
 // Where a part of a step has brought a walk, with the trials left.
-#[derive(Drop)]
+#[derive(Clone, Copy)]
 pub struct Reached {
     pub row: [u8; refusal::MOST_STATIONS],
     pub at: Standing,
@@ -154,7 +154,7 @@ impl Walk {
     }
 
     // The rows fit where the walk stands. The symbols before that place are known; `a` is the row's n symbols, `kept` the row kept.
-    fn fit_at_lem(self, a: &[u8], kept: &[u8], known: Known) -> bool
+    fn fit_at(self, a: &[u8], kept: &[u8], known: Known) -> bool
         requires { Fitting self × Knows (take (before self.at self.n) self.row) known × (a.now ≡ row_of self) × (kept.now ≡ self.kept) }
         ensures { result ≡ fit_at rules self.at self }
     {
@@ -220,7 +220,7 @@ impl Walk {
         let mut prefixes = prefix::carried::prefixes_of(&row[..n]);
         let m = self.before();
         let mut known = Known::read(&prefixes, &row[..m]);
-        if !self.fit_at_lem(&row[..n], &kept, known) {
+        if !self.fit_at(&row[..n], &kept, known) {
             return self.unfit();
         }
         loop {

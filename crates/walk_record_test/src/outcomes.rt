@@ -4,7 +4,7 @@ use walk::Walk;
 // Steps by their answer; how many that were refused 20 or 22 changed the record or counted trials; how many carry another place or keep
 // another row than plain search says; and the sums of trials, of the rows as numbers, of the standings' places, of the places carried and
 // of the rows kept.
-#[derive(Drop)]
+#[derive(Clone, Copy)]
 pub struct Outcomes {
     pub rings: usize,
     pub nones: usize,

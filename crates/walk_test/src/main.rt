@@ -15,7 +15,7 @@ const STEPS: usize = 20000;
 // ---- walks against the book
 
 // What was compared, and what differed. A walk counts at its step after the end. No count goes above a billion.
-#[derive(Drop)]
+#[derive(Clone, Copy)]
 struct Counts {
     walks: usize,
     rings: usize,

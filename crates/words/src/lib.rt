@@ -10,7 +10,7 @@ ghost use Rattle.words.specs.Pairs.{pairs};
 ghost use Rattle.words.specs.Symbols.{first_wrong};
 
 // Where a row lies against another.
-#[derive(Drop)]
+#[derive(Clone, Copy)]
 pub enum Order {
     Lower,
     Equal,
@@ -18,7 +18,7 @@ pub enum Order {
 }
 
 // The order of two rows; the place, from 1, where they first differ, 0 for equal rows; how many pairs of words and bytes were compared.
-#[derive(Drop)]
+#[derive(Clone, Copy)]
 pub struct Compared {
     pub order: Order,
     pub place: usize,

@@ -1,0 +1,22 @@
+-- `walk::Walk::descend` meets its contract: each turn of the loop is a free move or a trial on the way of the step.
+use mathlib.Core.List.{List}
+use Prim.Native.Nat.{ℕ, ◌-◌}
+use lib.ListN.{take}
+use Rattle.prefix.specs.InnerCarried.{Knows, KnowsPrefixes}
+use Rattle.prefix.specs.declared.carried.Known.{Known}
+use Rattle.walk.proofs.Resuming.{Comes}
+use Rattle.walk.specs.Moves.{moved}
+use Rattle.walk.specs.declared.Standing.TheVariants.{Down}
+use Rattle.walk.specs.declared.Walk.{Walk}
+use Rattle.walk.proofs.Walk.descend.Given as goal
+
+pub record Inv (w : Walk) (allowed : ℕ) (prefixes row : List ℕ) (p left : ℕ) (known : Known) : Type 0 where
+  pub comes : Comes w allowed (moved w row (Down p)) left
+  pub table : KnowsPrefixes (take (p - 1) row) prefixes
+  pub knows : Knows (take (p - 1) row) known
+
+abbrev pub invariant-loop-p : goal.invariant-loop-p
+invariant-loop-p l = Inv l.self l.allowed l.prefixes l.row l.p l.left l.known
+
+abbrev pub decreases-loop-p : goal.decreases-loop-p
+decreases-loop-p l = l.p
