@@ -42,6 +42,8 @@ returns-then-not-has_pitch_list c =
     let k = checked c.are_stations.ensures c.if-not-are_stations.false c.first_wrong-wrong.ensures c.if-wrong-ne0.false c.count_ones-holes.ensures.0 in
     rw (list_last c.args.row.now (length c.args.out.now) k.stations k.symbols (sym c.has_pitch_list.ensures ∙ c.if-not-has_pitch_list.true)) (record { answer = refl; buffer = refl })
 
+-- a list with no room is refused,
+-- and the buffer is not touched
 pub returns-then-out-holes : goal.returns-then-out-holes
 returns-then-out-holes c =
     let k = checked c.are_stations.ensures c.if-not-are_stations.false c.first_wrong-wrong.ensures c.if-wrong-ne0.false c.count_ones-holes.ensures.0 in

@@ -26,6 +26,8 @@ pub returns-then-n-pitches : goal.returns-then-n-pitches
 returns-then-n-pitches c =
     rw (row_holes c.args.n c.args.pitches.now (length c.args.out.now) (sym c.are_stations.ensures ∙ c.if-not-are_stations.false) c.if-n-pitches.true) (record { answer = refl; buffer = refl })
 
+-- a pitch of 0 is refused,
+-- whatever the pitches add up to
 pub returns-then-zero-ne0 : goal.returns-then-zero-ne0
 returns-then-zero-ne0 c =
     let e = c.first_zero-zero.ensures in
