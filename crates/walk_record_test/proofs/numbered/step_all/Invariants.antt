@@ -1,5 +1,5 @@
 -- `walk_record_test::numbered::step_all` is safe and ends.
-use Rattle.std.proofs.Common.{◌-◌, ◌≤◌, rules}
+use Rattle.std.proofs.Common.{◌-◌, ◌≤◌}
 use Rattle.walk_record_test.proofs.numbered.step_all.Given as goal
 
 abbrev pub invariant-loop-index : goal.invariant-loop-index

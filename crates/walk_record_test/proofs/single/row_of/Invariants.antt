@@ -1,5 +1,5 @@
 -- `walk_record_test::single::row_of` is safe and ends.
-use Rattle.std.proofs.Common.{◌-◌, ◌≤◌, rules}
+use Rattle.std.proofs.Common.{◌-◌, ◌≤◌}
 use Rattle.walk_record_test.proofs.single.row_of.Given as goal
 
 abbrev pub invariant-loop-i : goal.invariant-loop-i
