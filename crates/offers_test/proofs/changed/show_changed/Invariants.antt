@@ -1,5 +1,5 @@
 -- `offers_test::changed::show_changed` is safe and ends.
-use Rattle.std.proofs.Common.{◌-◌, ◌≤◌, rules}
+use Rattle.std.proofs.Common.{◌-◌, ◌≤◌}
 use Rattle.offers_test.proofs.changed.show_changed.Given as goal
 
 abbrev pub invariant-loop-from : goal.invariant-loop-from

@@ -1,5 +1,5 @@
 -- `offers_test::changed::take_all` is safe and ends.
-use Rattle.std.proofs.Common.{◌-◌, ◌≤◌, rules}
+use Rattle.std.proofs.Common.{◌-◌, ◌≤◌}
 use Rattle.offers_test.proofs.changed.take_all.Given as goal
 
 abbrev pub invariant-loop-i : goal.invariant-loop-i

@@ -1,5 +1,5 @@
 -- `offers_test::single::show_calls` is safe and ends.
-use Rattle.std.proofs.Common.{◌-◌, ◌≤◌, rules}
+use Rattle.std.proofs.Common.{◌-◌, ◌≤◌}
 use Rattle.offers_test.proofs.single.show_calls.Given as goal
 
 abbrev pub invariant-loop-i : goal.invariant-loop-i

@@ -1,5 +1,5 @@
 -- `offers_test::walks::compare_all` is safe and ends.
-use Rattle.std.proofs.Common.{◌-◌, ◌≤◌, rules}
+use Rattle.std.proofs.Common.{◌-◌, ◌≤◌}
 use Rattle.offers_test.proofs.walks.compare_all.Given as goal
 
 abbrev pub invariant-loop-index : goal.invariant-loop-index

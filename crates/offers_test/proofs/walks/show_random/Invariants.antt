@@ -1,5 +1,5 @@
 -- `offers_test::walks::show_random` is safe and ends.
-use Rattle.std.proofs.Common.{◌-◌, ◌≤◌, rules}
+use Rattle.std.proofs.Common.{◌-◌, ◌≤◌}
 use Rattle.offers_test.proofs.walks.show_random.Given as goal
 
 abbrev pub invariant-loop-from : goal.invariant-loop-from
