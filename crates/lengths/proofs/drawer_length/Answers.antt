@@ -28,6 +28,8 @@ rank_of-requires c =
     let p = passes _ _ c.check_opening-checked.ensures c.in-Accepted.is in
     (limit_given _ _ _ _ p, counted _ _ _ _ p (λ k. omega arith))
 
+-- kinds 1 and 2 have exactly
+-- as many rings as the seat of the limit says
 pub returns : goal.returns
 returns c =
     let p = passes _ _ c.check_opening-checked.ensures c.in-Accepted.is in

@@ -6,6 +6,8 @@ use Rattle.words.proofs.OnePass.{class_lyndon, class_necklace}
 use Rattle.refusal.proofs.Stations.{stations→}
 use Rattle.necklace.proofs.class.Goals as goal
 
+-- stations out of range
+-- are refused whatever the symbols are
 pub returns-then-not-are_stations : goal.returns-then-not-are_stations
 returns-then-not-are_stations c = class_stations c.args.row.now (sym c.are_stations.ensures ∙ c.if-not-are_stations.true)
 

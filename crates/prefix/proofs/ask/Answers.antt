@@ -28,6 +28,8 @@ returns-then-n-d c =
     let a = c.args in
     rw (ask_holes a.n a.d a.prefix.now sized c.if-n-d.true)
 
+-- a prefix that is too long
+-- is refused whatever its symbols are
 pub returns-then-n-prefix : goal.returns-then-n-prefix
 returns-then-n-prefix c =
     let sized : are_stations c.args.n ≡ true = sym c.are_stations.ensures ∙ c.if-not-are_stations.false in

@@ -36,6 +36,8 @@ returns-in-Refused c =
     let k = kept c.args.n c.args.d c.args.kind c.args.seat c.args.out.now _ (unrank_refused c.args.n c.args.d c.args.kind c.args.seat (length c.args.out.now) _ (e ∙ ap checked_verdict c.in-Refused.is)) in
     record { answer = k.0; buffer = k.1 }
 
+-- a buffer that is too short
+-- is refused whatever the seat is
 pub returns-then-out-n : goal.returns-then-out-n
 returns-then-out-n c =
     let e = drawn c.args.n c.args.d c.args.kind c.counted.result c.check_drawer-checked.result c.counted.ensures c.check_drawer-checked.ensures c.in-Accepted.is in

@@ -4,6 +4,8 @@ use native.Mathlib.Omega.{arith}
 use Rattle.binder.proofs.UnderName.{put_above, put_done, put_refused, put_unfit}
 use Rattle.binder.proofs.Binder.put.Goals as goal
 
+-- a name above 7
+-- is refused whatever the walk is
 pub returns-then-name-ge-NAMES : goal.returns-then-name-ge-NAMES
 returns-then-name-ge-NAMES c =
     let a = c.args in
