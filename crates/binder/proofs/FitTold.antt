@@ -1,40 +1,46 @@
 -- A step that is allowed no trial tells whether the record is fit.
-use mathlib.Core.Bool.{Bool, false, not, true, true≢false}
+use mathlib.Core.Bool.{Bool, false, true}
 use mathlib.Core.Path.{ap, refl, sym, ◌∙◌, ◌≡◌}
-use Prim.Native.Nat.{ℕ}
-use lib.Dec.{eqb}
-use borrow.Author.Tests.{ne_eqb}
-use Rattle.refusal.specs.Refusals.{number_of}
+use native.Mathlib.Omega.{arith}
+use Rattle.refusal.proofs.Claims.{numbers_tell}
+use Rattle.refusal.specs.Refusals.{place_of}
 use Rattle.refusal.specs.declared.Refusal.{Refusal}
-use Rattle.walk.proofs.RecordClaims.{unfit_exactly}
+use Rattle.refusal.specs.declared.Refusal.TheVariants.{Unfit}
+use Rattle.std.specs.Prelude.{Err, Ok, Result}
+use Rattle.walk.proofs.RecordClaims.{refused_tells, unfit_exactly}
 use Rattle.walk.specs.Claims.{Record}
 use Rattle.walk.specs.Fit.{fit}
 use Rattle.walk.specs.Moves.{rules}
 use Rattle.walk.specs.Step.{answer_numbers, step_due, step_numbers}
 use Rattle.walk.specs.declared.Answer.{Answer}
-use Rattle.walk.specs.declared.Answer.TheVariants.{None, Refused, Ring}
+use Rattle.walk.specs.declared.Answer.TheVariants.{None, Ring}
 use Rattle.walk.specs.declared.Stepped.{Stepped}
 use Rattle.walk.specs.declared.Walk.{Walk}
 
 module _ (w : Walk) (long : Record w) (r : Stepped) (e : step_numbers r ≡ step_due rules w 0) where
-  by_number : (n : ℕ) → (step_numbers r).number ≡ n → not (eqb n 22) ≡ fit rules w
-  by_number n f = go (fit rules w) refl
+  number_is : (a : Result Answer Refusal) → r.answer ≡ a → (step_due rules w 0).number ≡ (answer_numbers a r.walk r.place r.trials).number
+  number_is a f = sym (ap (λ s. s.number) e) ∙ ap (λ a. (answer_numbers a r.walk r.place r.trials).number) f
+
+  -- no 22
+  fits : ((step_due rules w 0).number ≡ 22 → ⊥) → true ≡ fit rules w
+  fits f = go (fit rules w) refl
     where
-      same : (step_due rules w 0).number ≡ n
-      same = sym (ap (λ s. s.number) e) ∙ f
+      go : (b : Bool) → fit rules w ≡ b → true ≡ fit rules w
+      go true h = sym h
+      go false h = absurd (f ((unfit_exactly w 0 long).1 h))
 
-      go : (b : Bool) → fit rules w ≡ b → not (eqb n 22) ≡ b
-      go false h = ap (λ n. not (eqb n 22)) (sym same ∙ (unfit_exactly w 0 long).1 h)
-      go true h = ap not (ne_eqb n 22 (λ q. true≢false (sym h ∙ (unfit_exactly w 0 long).0 (same ∙ q))))
+  pub ok_told : (a : Answer) → r.answer ≡ Ok a → true ≡ fit rules w
+  ok_told a f = fits (λ n. no_number a (sym (number_is (Ok a) f) ∙ n))
+    where
+      no_number : (a : Answer) → (answer_numbers (Ok a) r.walk r.place r.trials).number ≡ 22 → ⊥
+      no_number Ring n = omega arith
+      no_number None n = omega arith
 
-  number_of_lem : (a : Answer) → r.answer ≡ a → (step_numbers r).number ≡ (answer_numbers a r.walk r.place r.trials).number
-  number_of_lem a f = ap (λ a. (answer_numbers a r.walk r.place r.trials).number) f
+  pub unfit_told : r.answer ≡ Err Unfit → false ≡ fit rules w
+  unfit_told f = sym ((unfit_exactly w 0 long).0 (number_is (Err Unfit) f))
 
-  pub ring-told : r.answer ≡ Ring → true ≡ fit rules w
-  ring-told f = by_number 0 (number_of_lem Ring f)
-
-  pub none_told : r.answer ≡ None → true ≡ fit rules w
-  none_told f = by_number 0 (number_of_lem None f)
-
-  pub refused_told : (q : Refusal) → r.answer ≡ Refused q → not (eqb (number_of q) 22) ≡ fit rules w
-  refused_told q f = by_number (number_of q) (number_of_lem (Refused q) f)
+  pub refused_told : (q : Refusal) → (q ≡ Unfit → ⊥) → r.answer ≡ Err q → true ≡ fit rules w
+  refused_told q d f = fits (λ n. d (numbers_tell q Unfit (sym (number_is (Err q) f) ∙ n) place))
+    where
+      place : place_of q ≡ 0
+      place = sym (ap (λ a. (answer_numbers a r.walk r.place r.trials).place) f) ∙ ap (λ s. s.place) e ∙ (refused_tells w 0).0

@@ -1,8 +1,7 @@
 -- What document 02 claims of bookmarks, each claim as a statement of its own.
-use Rattle.std.specs.Prelude.{false, true, List, ◌≡◌, ℕ, ◌<◌, ◌≤◌, length}
+use Rattle.std.specs.Prelude.{false, true, List, ◌≡◌, ℕ, ◌<◌, ◌≤◌, length, Some, None, Ok}
 use Rattle.listing.specs.Listing.{listing_answers}
 use Rattle.refusal.specs.Conditions.{Conditions, FirstOf, no_more, when}
-use Rattle.refusal.specs.Outcomes.{given}
 use Rattle.refusal.specs.Verdicts.{accepted, refused}
 use Rattle.refusal.specs.declared.Refusal.{Refusal}
 use Rattle.refusal.specs.declared.Refusal.TheVariants.{Name, NothingPut, Unfit}
@@ -12,7 +11,7 @@ use Rattle.walk.specs.Moves.{rules}
 use Rattle.walk.specs.Step.{walk_answers, walk_placed}
 use Rattle.walk.specs.ToCome.{stands}
 use Rattle.walk.specs.declared.Walk.{Walk}
-use Rattle.binder.specs.Names.{fetch_of, fetch_verdict, filed, fresh_binder, put_of, put_verdict, under}
+use Rattle.binder.specs.Names.{fetch_of, fetch_verdict, fresh_binder, put_of, put_verdict, under}
 use Rattle.binder.specs.Puts.{Put, after_puts, fetch_due, fetched}
 use Rattle.binder.specs.declared.Binder.{Binder}
 
@@ -31,7 +30,7 @@ PutRefusals = (name : ℕ) (w : Walk) → FirstOf (put_conditions name w) (put_v
 
 -- "12, name above 7, first; 23, nothing put under the name, after it"
 abbrev pub fetch_conditions : Binder → ℕ → Conditions
-fetch_conditions b name = when (NoName name) Name (when ((under b name).put ≡ false) NothingPut no_more)
+fetch_conditions b name = when (NoName name) Name (when (under b name ≡ None) NothingPut no_more)
 
 abbrev pub FetchRefusals : Type 0
 FetchRefusals = (b : Binder) (name : ℕ) → FirstOf (fetch_conditions b name) (fetch_verdict b name)
@@ -44,7 +43,7 @@ Eight b = length b.bookmarks ≡ 8
 abbrev pub PutReplaces : Type 0
 PutReplaces =
     (b : Binder) (name : ℕ) (w : Walk) → Eight b → put_verdict name w ≡ accepted
-    → (under (put_of b name w) name ≡ filed w) × ((other : ℕ) → (other ≡ name → ⊥) → under (put_of b name w) other ≡ under b other)
+    → (under (put_of b name w) name ≡ Some w) × ((other : ℕ) → (other ≡ name → ⊥) → under (put_of b name w) other ≡ under b other)
 
 -- "A refused put hands the binder back as it was."
 abbrev pub RefusedPut : Type 0
@@ -55,13 +54,13 @@ abbrev pub FetchGives : Type 0
 FetchGives =
     (b : Binder) (name : ℕ)
     → ((r : Refusal) → fetch_verdict b name ≡ refused r → RefusedWalk (fetch_of b name))
-    × (fetch_verdict b name ≡ accepted → fetch_of b name ≡ (under b name).walk)
+    × (fetch_verdict b name ≡ accepted → under b name ≡ Some (fetch_of b name))
 
--- "A fresh binder has nothing put": under each of its eight names the walk of a refused opening stands beside the flag.
+-- "A fresh binder has nothing put" under any of its eight names, and fetching one gives the walk of a refused opening.
 abbrev pub FreshNothing : Type 0
 FreshNothing =
     Eight fresh_binder
-    × ((name : ℕ) → name ≤ 7 → ((under fresh_binder name).put ≡ false) × RefusedWalk (under fresh_binder name).walk)
+    × ((name : ℕ) → name ≤ 7 → (under fresh_binder name ≡ None) × RefusedWalk (fetch_of fresh_binder name))
 
 -- ---- a list of puts on a fresh binder
 
@@ -70,13 +69,13 @@ pub record LastFetched (puts : List Put) (name : ℕ) : Type 0 where
   -- the walk of the last put that was accepted, or the refusal
   pub last : fetched (after_puts fresh_binder puts) name ≡ fetch_due name puts
   -- a walk that is given is fit
-  pub fits : (w : Walk) → fetch_due name puts ≡ given w → fit rules w ≡ true
+  pub fits : (w : Walk) → fetch_due name puts ≡ Ok w → fit rules w ≡ true
   -- and answers as it did: every list of steps alike, by the book of what the record stands for
   pub alike :
-      (w : Walk) → fetch_due name puts ≡ given w → (steps : List ℕ)
+      (w : Walk) → fetch_due name puts ≡ Ok w → (steps : List ℕ)
       → walk_placed rules (fetch_of (after_puts fresh_binder puts) name) steps ≡ walk_placed rules w steps
   pub booked :
-      (w : Walk) → fetch_due name puts ≡ given w → Record w → (steps : List ℕ)
+      (w : Walk) → fetch_due name puts ≡ Ok w → Record w → (steps : List ℕ)
       → walk_answers rules (fetch_of (after_puts fresh_binder puts) name) steps ≡ listing_answers (stands rules w) steps
 
 abbrev pub FetchesLast : Type 0

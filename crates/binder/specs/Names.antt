@@ -1,6 +1,6 @@
 -- "A binder keeps walks under names 0 to 7": what putting and fetching are refused, and what they hand back.
-use Rattle.std.specs.Prelude.{false, true, suc, ℕ, leb, get_or, replicate, set}
-use Rattle.refusal.specs.Outcomes.{Outcome, given}
+use Rattle.std.specs.Prelude.{Option, Some, None, suc, ℕ, leb, get_or, replicate, set}
+use Rattle.std.specs.Option.{is_some, unwrap_or}
 use Rattle.refusal.specs.Verdicts.{Verdict, accepted, need, refused}
 use Rattle.refusal.specs.declared.Refusal.TheVariants.{Name, NothingPut, Unfit}
 use Rattle.walk.specs.Fit.{fit}
@@ -8,29 +8,18 @@ use Rattle.walk.specs.Moves.{rules}
 use Rattle.walk.specs.Opening.{refused_walk}
 use Rattle.walk.specs.declared.Walk.{Walk}
 use Rattle.binder.specs.declared.Binder.{Binder}
-use Rattle.binder.specs.declared.BinderAnswer.{BinderAnswer}
-use Rattle.binder.specs.declared.BinderAnswer.TheVariants.{Done, Refused}
-use Rattle.binder.specs.declared.Bookmark.{Bookmark}
 
 -- the highest name
 abbrev pub highest_name : ℕ
 highest_name = 7
 
--- nothing put: beside it stands the walk of a refused opening
-abbrev pub nothing : Bookmark
-nothing = record { put = false; walk = refused_walk rules }
-
--- a walk that was put
-abbrev pub filed : Walk → Bookmark
-filed w = record { put = true; walk = w }
-
--- what stands under a name
-unfoldable pub under : Binder → ℕ → Bookmark
-under b name = get_or b.bookmarks name nothing
+-- the walk that stands under a name, if one was put
+unfoldable pub under : Binder → ℕ → Option Walk
+under b name = get_or b.bookmarks name None
 
 -- "A fresh binder has nothing put."
 unfoldable pub fresh_binder : Binder
-fresh_binder = record { bookmarks = replicate (suc highest_name) nothing }
+fresh_binder = record { bookmarks = replicate (suc highest_name) None }
 
 -- ---- putting
 
@@ -40,7 +29,7 @@ put_verdict name w = need (leb name highest_name) Name (need (fit rules w) Unfit
 
 -- "Putting a walk under a name replaces what was there and touches no other name. .. A refused put hands the binder back as it was."
 abbrev pub put_binder : Verdict → Binder → ℕ → Walk → Binder
-put_binder accepted b name w = record { bookmarks = set b.bookmarks name (filed w) }
+put_binder accepted b name w = record { bookmarks = set b.bookmarks name (Some w) }
 put_binder (refused r) b name w = b
 
 abbrev pub put_of : Binder → ℕ → Walk → Binder
@@ -50,17 +39,12 @@ put_of b name w = put_binder (put_verdict name w) b name w
 
 -- "12, name above 7, first; 23, nothing put under the name, after it"
 unfoldable pub fetch_verdict : Binder → ℕ → Verdict
-fetch_verdict b name = need (leb name highest_name) Name (need (under b name).put NothingPut accepted)
+fetch_verdict b name = need (leb name highest_name) Name (need (is_some (under b name)) NothingPut accepted)
 
 -- "Fetching returns the walk .. under that name .. a refused fetch gives the walk of a refused opening."
 abbrev pub fetch_walk : Verdict → Binder → ℕ → Walk
-fetch_walk accepted b name = (under b name).walk
+fetch_walk accepted b name = unwrap_or (under b name) (refused_walk rules)
 fetch_walk (refused r) b name = refused_walk rules
 
 abbrev pub fetch_of : Binder → ℕ → Walk
 fetch_of b name = fetch_walk (fetch_verdict b name) b name
-
--- ---- document 01's number for each answer: no value is returned beside the binder or the walk
-abbrev pub binder_outcome : BinderAnswer → Outcome Unit
-binder_outcome Done = given tt
-binder_outcome (Refused r) = Outcome.refused r

@@ -5,8 +5,8 @@ ghost use Rattle.std.specs.Prelude.{◌≡◌, ◌≤◌};
 ghost use Rattle.refusal.specs.Outcomes.{decide};
 ghost use Rattle.walk.specs.Fit.{fit};
 ghost use Rattle.walk.specs.Moves.{rules};
-ghost use Rattle.binder.specs.InnerAnswers.{done_put, fetched_from, refused_fetch, refused_put};
-ghost use Rattle.binder.specs.Names.{binder_outcome, fetch_of, fetch_verdict, fresh_binder, highest_name, put_of, put_verdict};
+ghost use Rattle.binder.specs.InnerAnswers.{refused_fetch, refused_put};
+ghost use Rattle.binder.specs.Names.{fetch_of, fetch_verdict, fresh_binder, put_of, put_verdict};
 
 use refusal::Refusal;
 use walk::Walk;
@@ -14,38 +14,24 @@ use walk::Walk;
 // How many names there are.
 pub const NAMES: usize = 8;
 
-// What stands under a name: a walk, if one was put.
-#[derive(Clone, Copy)]
-pub struct Bookmark {
-    pub put: bool,
-    pub walk: Walk,
-}
-
-// A binder, taken in and handed back by each put.
+// A binder, taken in and handed back by each put: under each name a walk, if one was put.
 #[derive(Clone, Copy)]
 pub struct Binder {
-    pub bookmarks: [Bookmark; NAMES],
-}
-
-// What a put or a fetch says.
-#[derive(Clone, Copy)]
-pub enum BinderAnswer {
-    Done,
-    Refused(Refusal),
+    pub bookmarks: [Option<Walk>; NAMES],
 }
 
 // What a put hands back.
 #[derive(Clone, Copy)]
 pub struct Filed {
     pub binder: Binder,
-    pub answer: BinderAnswer,
+    pub answer: Result<(), Refusal>,
 }
 
-// What a fetch hands back.
+// What a fetch hands back: a refused one, a walk too.
 #[derive(Clone, Copy)]
 pub struct Fetched {
     pub walk: Walk,
-    pub answer: BinderAnswer,
+    pub answer: Result<(), Refusal>,
 }
 
 // Whether a walk record is fit: a step that is allowed no trial is refused with 22 exactly where it isn't.
@@ -53,11 +39,13 @@ fn is_fit(walk: Walk) -> bool
     ensures { result ≡ fit rules walk }
 {
     let stepped = walk.step(0);
-    let answer = stepped.answer;
-    match answer {
-        walk::Answer::Ring => true,
-        walk::Answer::None => true,
-        walk::Answer::Refused(r) => refusal::number(r) != 22,
+    // by matches: `!=` of two Results was tried, and its proof goes through every case of a refusal
+    match stepped.answer {
+        Ok(_) => true,
+        Err(r) => match r {
+            Refusal::Unfit => false,
+            _ => true,
+        },
     }
 }
 
@@ -67,24 +55,7 @@ fn no_walk(r: Refusal) -> Fetched
 {
     Fetched {
         walk: Walk::refused(),
-        answer: BinderAnswer::Refused(r),
-    }
-}
-
-impl Bookmark {
-    // What fetching it gives.
-    fn fetched(self) -> Fetched
-        ensures { result ≡ fetched_from self.put self }
-    {
-        let put = self.put;
-        let walk = self.walk;
-        if !put {
-            return no_walk(Refusal::NothingPut);
-        }
-        Fetched {
-            walk,
-            answer: BinderAnswer::Done,
-        }
+        answer: Err(r),
     }
 }
 
@@ -93,12 +64,8 @@ impl Binder {
     pub fn fresh() -> Binder
         ensures { result ≡ fresh_binder }
     {
-        let nothing = Bookmark {
-            put: false,
-            walk: Walk::refused(),
-        };
         Binder {
-            bookmarks: [nothing; NAMES],
+            bookmarks: [None; NAMES],
         }
     }
 
@@ -108,26 +75,13 @@ impl Binder {
     {
         Filed {
             binder: self,
-            answer: BinderAnswer::Refused(r),
-        }
-    }
-
-    // A put that is done.
-    fn filing(self, name: usize, walk: Walk) -> Filed
-        requires { name ≤ highest_name }
-        ensures { result ≡ done_put self name walk }
-    {
-        let mut bookmarks = self.bookmarks;
-        bookmarks[name] = Bookmark { put: true, walk };
-        Filed {
-            binder: Binder { bookmarks },
-            answer: BinderAnswer::Done,
+            answer: Err(r),
         }
     }
 
     // Puts a walk under a name, in place of what was there.
     pub fn put(self, name: usize, walk: Walk) -> Filed
-        ensures answer { binder_outcome result.answer ≡ decide (put_verdict name walk) tt }
+        ensures answer { result.answer ≡ decide (put_verdict name walk) tt }
         ensures binder { result.binder ≡ put_of self name walk }
     {
         if NAMES <= name {
@@ -136,18 +90,28 @@ impl Binder {
         if !is_fit(walk) {
             return self.unchanged(Refusal::Unfit);
         }
-        self.filing(name, walk)
+        let mut bookmarks = self.bookmarks;
+        bookmarks[name] = Some(walk);
+        Filed {
+            binder: Binder { bookmarks },
+            answer: Ok(()),
+        }
     }
 
     // The walk that stands under a name.
     pub fn fetch(self, name: usize) -> Fetched
-        ensures answer { binder_outcome result.answer ≡ decide (fetch_verdict self name) tt }
+        ensures answer { result.answer ≡ decide (fetch_verdict self name) tt }
         ensures walk { result.walk ≡ fetch_of self name }
     {
         if NAMES <= name {
             return no_walk(Refusal::Name);
         }
-        let bookmark = self.bookmarks[name];
-        bookmark.fetched()
+        match self.bookmarks[name] {
+            Some(walk) => Fetched {
+                walk,
+                answer: Ok(()),
+            },
+            None => no_walk(Refusal::NothingPut),
+        }
     }
 }

@@ -10,39 +10,20 @@ mod model;
 mod offered;
 mod single;
 
-ghost use Rattle.std.specs.Prelude.{◌<◌, ◌≤◌};
-
 use counts::Counts;
 
-// A list at random, or a binder.
-fn compare(counts: Counts, is_list: bool, number: usize) -> Counts
-    requires { number < 1000 }
+// Lists or binders, in hundreds.
+fn show_random<F: Fn(Counts, usize) -> Counts>(name: &[u8], compare: F)
+    requires { F.IsAlwaysCallable compare }
 {
-    if is_list {
-        return lists::compare_list(counts, number);
-    }
-    lists::compare_binder(counts, number)
-}
-
-// A hundred lists or binders, from a number on.
-fn compare_hundred(is_list: bool, from: usize) -> Counts
-    requires { from ≤ 900 }
-{
-    let mut counts = counts::nothing();
-    let mut i: usize = 0;
-    while i < 100 {
-        counts = compare(counts, is_list, from + i);
-        i += 1;
-    }
-    counts
-}
-
-fn show_random(name: &[u8], is_list: bool) {
-    let mut from: usize = 0;
-    while from < 400 {
+    for hundred in 0..4 {
+        let from = hundred * 100;
+        let mut counts = Counts::new();
+        for number in from..from + 100 {
+            counts = compare(counts, number);
+        }
         io::write_all(1, name);
-        counts::print_counts(from, compare_hundred(is_list, from));
-        from += 100;
+        counts::print(counts, from);
     }
 }
 
@@ -68,6 +49,6 @@ fn main() {
           new,a 0,b 255,f 0,f 255,c most,f 0,\
           new,a 0,b 1,a 6,b 7,f 0,f 1,f 6,f 7,",
     );
-    show_random(b"lists at random", true);
-    show_random(b"binders at random", false);
+    show_random(b"lists at random", lists::compare_list);
+    show_random(b"binders at random", lists::compare_binder);
 }

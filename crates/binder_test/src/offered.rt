@@ -1,112 +1,86 @@
 // Looks and takes, compared with what is due: by the book where it is known, else as a step does.
 use crate::model;
-use crate::model::Page;
-use offers::Offer;
-use test_calls::Told;
-use walk::{Standing, Walk};
+use offers::{Looked, Offer};
+use test_walks::book::{Book, Next};
+use walk::{Standing, Stepped, Walk};
 
-// An offer that was made, and the page whose next line, or none, it offers.
+// An offer that was made, and the book whose next line, or none, it offers.
 #[derive(Clone, Copy)]
 pub struct Made {
     pub offer: Offer,
-    pub page: Page,
+    pub book: Option<Book>,
 }
 
 // No look made: the offer of a refused one, which is none of drawer (1, 0).
 pub fn no_look() -> Made {
     Made {
         offer: Offer::refused(),
-        page: model::over(true),
+        book: Some(model::over()),
     }
 }
 
-// The offer of a look at a page, kept; where the look is refused, it offers as no look does.
-pub fn made_by(page: Page, said: u8, offer: Offer) -> Made {
-    if 1 < said {
-        return Made {
-            offer,
-            page: model::over(true),
-        };
+// The offer of a look, kept with the book; where the look is refused, it offers as no look does.
+pub fn made_by(book: Option<Book>, looked: Looked) -> Made {
+    let book = match looked.answer {
+        Ok(_) => book,
+        Err(_) => Some(model::over()),
+    };
+    Made {
+        offer: looked.offer,
+        book,
     }
-    Made { offer, page }
 }
 
 // ---- what is due
 
-fn standing_after(none: bool) -> Standing {
-    if none {
-        Standing::Ended
-    } else {
-        Standing::Given
-    }
-}
-
 // The walk that the next line, or none, leaves.
-fn lined(page: Page) -> Walk {
-    let book = page.book;
-    let row = test_rows::row_of_number(page.n, book.number);
+fn lined(book: Book) -> Walk {
+    let drawer = book.row.shelf.drawer;
+    let row = test_rows::row_of_number(drawer.n, book.row.number);
     Walk {
-        n: page.n,
-        d: page.d,
-        kind: page.kind,
+        n: drawer.n,
+        d: drawer.d,
+        kind: drawer.kind,
         row,
-        at: standing_after(book.none),
+        at: if book.next == Next::Line {
+            Standing::Given
+        } else {
+            Standing::Ended
+        },
         kept: row,
     }
 }
 
 // What a step is due to say, with the walk that a ring or none leaves.
-pub fn step_due(page: Page, before: Walk, allowance: u64) -> Told {
-    let book = page.book;
-    let allowed = allowance as usize;
-    if !page.known {
-        return test_calls::step(before, allowance);
-    }
-    Told {
-        walk: lined(page),
-        said: test_walks::book::says(book, allowed),
-        place: test_walks::book::place(page.n, book, allowed),
-        trials: test_walks::book::trials(book, allowed),
+pub fn step_due(book: Option<Book>, before: Walk, allowance: u64) -> Stepped {
+    match book {
+        Some(book) => Stepped {
+            walk: lined(book),
+            answer: book.says(allowance),
+            place: book.place(allowance),
+            trials: book.trials(allowance),
+        },
+        None => before.step(allowance),
     }
 }
 
-// Whether the same line, or none, of the same drawer is next on two pages.
-fn same_next(page: Page, other: Page) -> bool {
-    let book = page.book;
-    let other_book = other.book;
-    if page.n != other.n {
-        return false;
-    }
-    if page.d != other.d {
-        return false;
-    }
-    if page.kind != other.kind {
-        return false;
-    }
-    book.none == other_book.none && book.number == other_book.number
+// Whether the same line, or none, of the same drawer is next in two books.
+fn same_next(book: Book, other: Book) -> bool {
+    book.row.shelf.drawer == other.row.shelf.drawer
+        && (book.next == Next::Line) == (other.next == Next::Line)
+        && book.row.number == other.row.number
 }
 
 // Whether what a step is due to give is what was offered: by the books where both are known.
-fn is_offered(page: Page, due: Told, made: Made) -> bool {
-    let offer = made.offer;
-    let looked = made.page;
-    if page.known && looked.known {
-        return same_next(page, looked);
+fn is_offered(book: Option<Book>, due: Stepped, made: Made) -> bool {
+    match (book, made.book) {
+        (Some(book), Some(other)) => same_next(book, other),
+        _ => test_calls::same_offer(test_calls::offer_due(due, made.offer.allowance), made.offer),
     }
-    test_calls::same_offer(test_calls::offer_due(due, offer.allowance), offer)
 }
 
 // What a take is due to say and to leave.
-pub fn take_due(page: Page, before: Walk, made: Made) -> Told {
-    let offer = made.offer;
-    let due = step_due(page, before, offer.allowance);
-    test_calls::take_due(before, due, is_offered(page, due, made))
-}
-
-// The page after a take that is due to say so.
-pub fn page_after(page: Page, said: u8, allowance: u64) -> Page {
-    if 1 < said {
-        return page;
-    }
-    model::turned(page, allowance as usize)
+pub fn take_due(book: Option<Book>, before: Walk, made: Made) -> Stepped {
+    let due = step_due(book, before, made.offer.allowance);
+    test_calls::take_due(before, due, is_offered(book, due, made))
 }

@@ -17,8 +17,8 @@ use Rattle.words.proofs.Rotations.{is_necklace→}
 use Rattle.words.specs.Order.{cmp, order_of}
 use Rattle.words.specs.Reversal.{is_bracelet}
 use Rattle.words.specs.Rotation.{IsRotation, is_necklace, rotation}
-use Rattle.words.specs.declared.Order.{Order}
-use Rattle.words.specs.declared.Order.TheVariants.{Equal, Higher, Lower}
+use Rattle.std.specs.declared.cmp.Ordering.{Ordering as Answer}
+use Rattle.std.specs.declared.cmp.Ordering.TheVariants.{Equal, Greater, Less}
 use Rattle.words.proofs.TurnedKey.{is_bracelet→, necklace_bracelet}
 
 -- w is at or below the first j rotations of its reverse
@@ -35,11 +35,11 @@ module _ {w : List ℕ} {j : ℕ} (p : Passed w j) where
   passed_all h s l = sym (necklace_bracelet w h (is_necklace→ w s) (λ v r. subst (λ u. w ≼ u) (sym r.is) (p.low r.by (omega (arith, r.inside, length-reverse w)))))
 
   -- the next one, by what its comparison answers
-  module _ (h : j < length w) (r : Order) (e : r ≡ order_of (cmp w (rotation j (reverse w)))) where
+  module _ (h : j < length w) (r : Answer) (e : r ≡ order_of (cmp w (rotation j (reverse w)))) where
     next : IsRotation (reverse w) (rotation j (reverse w))
     next = record { by = j; inside = omega (arith, length-reverse w); is = refl }
 
-    pub passed_more : r ≡ Lower → Passed w (j + 1)
+    pub passed_more : r ≡ Less → Passed w (j + 1)
     passed_more q = record { inside = omega arith; low = λ i l. pick i (le_or j i) l }
       where
         pick : (i : ℕ) → (j ≤ i) ⊎ (i < j) → i < j + 1 → w ≼ rotation i (reverse w)
@@ -47,7 +47,7 @@ module _ {w : List ℕ} {j : ℕ} (p : Passed w j) where
         pick i (inr a) l = p.low i a
 
     -- a lower rotation
-    pub passed_lower : r ≡ Higher → false ≡ is_bracelet w
+    pub passed_lower : r ≡ Greater → false ≡ is_bracelet w
     passed_lower q = sym (never (is_bracelet w) (λ t. not_both (cmp_gt w (rotation j (reverse w)) (order_higher _ (sym e ∙ q))) (is_bracelet→ w (omega arith) t (rotation j (reverse w)) (inr next))))
 
     -- the row itself: the reverse has the row's own rotations

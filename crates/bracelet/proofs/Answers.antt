@@ -8,12 +8,9 @@ use lib.Dec.{eqb, leb}
 use lib.ListN.{drop, length, length-append, length-drop, length-reverse, take}
 use lib.Seq.{drop_at, take_at}
 use borrow.Author.Tests.{leb-true}
-use Rattle.bracelet.specs.Answers.{turned_outcome}
-use Rattle.bracelet.specs.declared.TurnedAnswer.{TurnedAnswer}
-use Rattle.bracelet.specs.declared.TurnedAnswer.TheVariants.{Written}
-use Rattle.necklace.specs.Key.{key_given, key_outcome, key_verdict}
-use Rattle.necklace.specs.declared.KeyAnswer.{KeyAnswer}
-use Rattle.necklace.specs.declared.KeyAnswer.TheVariants.{Found}
+use Rattle.necklace.specs.Key.{key_given, key_verdict}
+use Rattle.necklace.specs.declared.RowKey.{RowKey}
+use Rattle.std.specs.Prelude.{Err, Ok, Result}
 use Rattle.refusal.proofs.Conditions.{need→}
 use Rattle.refusal.proofs.Outcomes.{given_so, refused_so}
 use Rattle.refusal.proofs.Stations.{Sized, stations→}
@@ -29,8 +26,8 @@ use Rattle.words.specs.Rotation.{is_necklace, least_index, least_rotation, rotat
 use Rattle.words.specs.Symbols.{first_wrong}
 
 -- what `turned_key` promises, of an answer and of the buffer's content at the end
-abbrev pub TurnedKept : List ℕ → List ℕ → TurnedAnswer → List ℕ → Type 0
-TurnedKept row out r buffer = (turned_outcome r ≡ decide (key_verdict row (length out)) tt) × (buffer ≡ filled (key_verdict row (length out)) (turned_key row) out)
+abbrev pub TurnedKept : List ℕ → List ℕ → Result Unit Refusal → List ℕ → Type 0
+TurnedKept row out r buffer = (r ≡ decide (key_verdict row (length out)) tt) × (buffer ≡ filled (key_verdict row (length out)) (turned_key row) out)
 
 -- what a part of a buffer has to be, to be asked whether it is a bracelet
 pub record Shelved (part : List ℕ) : Type 0 where
@@ -39,15 +36,15 @@ pub record Shelved (part : List ℕ) : Type 0 where
   pub necklace : is_necklace part ≡ true
 
 -- the key's answer, and the buffer that it left
-module _ (row out buffer : List ℕ) (k : KeyAnswer) (e : key_outcome k ≡ decide (key_verdict row (length out)) (key_given row)) (f : buffer ≡ filled (key_verdict row (length out)) (least_rotation row) out) where
-  pub turned_refused : (r : Refusal) → k ≡ KeyAnswer.Refused r → TurnedKept row out (TurnedAnswer.Refused r) buffer
+module _ (row out buffer : List ℕ) (k : Result RowKey Refusal) (e : k ≡ decide (key_verdict row (length out)) (key_given row)) (f : buffer ≡ filled (key_verdict row (length out)) (least_rotation row) out) where
+  pub turned_refused : (r : Refusal) → k ≡ Err r → TurnedKept row out (Err r) buffer
   turned_refused r q =
-      let v = refused_so (key_verdict row (length out)) (key_given row) r (sym e ∙ ap key_outcome q) in
+      let v = refused_so (key_verdict row (length out)) (key_given row) r (sym e ∙ q) in
       rw v (refl, rw v at f)
 
-  module _ (j p : ℕ) (q : k ≡ Found j p) where
+  module _ (found : RowKey) (q : k ≡ Ok found) where
     accepts : key_verdict row (length out) ≡ accepted
-    accepts = given_so (key_verdict row (length out)) (key_given row) _ (sym e ∙ ap key_outcome q)
+    accepts = given_so (key_verdict row (length out)) (key_given row) _ (sym e ∙ q)
 
     pub found_sized : Sized (length row)
     unfolding key_verdict
@@ -80,11 +77,11 @@ module _ (row out buffer : List ℕ) (k : KeyAnswer) (e : key_outcome k ≡ deci
         rw key_part (record { some = omega (arith, size, n.some); most = omega (arith, size, n.most); necklace = →is_necklace (least_rotation row) (least_necklace row n.some) })
 
     -- the key stays
-    pub turned_plain : true ≡ is_bracelet (take (length row) buffer) → TurnedKept row out Written buffer
+    pub turned_plain : true ≡ is_bracelet (take (length row) buffer) → TurnedKept row out (Ok tt) buffer
     turned_plain t = rw accepts (refl, front ∙ ap (λ w. fronted w out) (sym (key_plain row found_sized.some (ap is_bracelet (sym key_part) ∙ sym t))))
 
     -- that of the reverse is written over it
-    pub turned_over : false ≡ is_bracelet (take (length row) buffer) → (over : List ℕ) → over ≡ reverse row → (i : ℕ) → i ≡ least_index over → (written : List ℕ) → written ≡ fronted (rotation i over) buffer → TurnedKept row out Written written
+    pub turned_over : false ≡ is_bracelet (take (length row) buffer) → (over : List ℕ) → over ≡ reverse row → (i : ℕ) → i ≡ least_index over → (written : List ℕ) → written ≡ fronted (rotation i over) buffer → TurnedKept row out (Ok tt) written
     unfolding least_rotation
     turned_over t over o i h written w =
         let key = least_rotation (reverse row) in

@@ -1,33 +1,12 @@
 -- The symbols of a reverse, and its rotations as parts of the reverse written two times.
-use mathlib.Core.List.{List, append_assoc, reverse, reverse-append, reverse-cons, ◌++◌, ◌∷◌}
-use mathlib.Core.Path.{ap, ap₂, sym, ◌∙◌, ◌≡◌}
-use Prim.Native.Nat.{suc, ℕ, ◌+◌, ◌-◌, ◌<◌, ◌≤◌}
+use mathlib.Core.List.{List, append_assoc, reverse, ◌++◌}
+use mathlib.Core.Path.{ap, ap₂, ◌∙◌, ◌≡◌}
+use Prim.Native.Nat.{ℕ, ◌+◌, ◌-◌, ◌≤◌}
 use native.Mathlib.Omega.{arith}
-use lib.ListN.{drop, get_or, length, length-append, length-drop, length-reverse, take}
-use lib.Seq.{append_snoc, drop-append-le, get_or_at, split_at, take-append-add, take-append-le, take_at}
+use lib.ListN.{drop, length, length-append, length-drop, length-reverse, take}
+use lib.Seq.{drop-append-le, take-append-add, take-append-le, take_at}
 use Rattle.words.specs.Buffers.{fronted}
 use Rattle.words.specs.Rotation.{rotation}
-
-pub reverse_symbol : (a : List ℕ) (i : ℕ) → i < length a → get_or a (length a - 1 - i) 0 ≡ get_or (reverse a) i 0
-reverse_symbol a i h = sym (ap (λ r. get_or r i 0) parts ∙ get_or_at (reverse q) x (reverse p) 0 i size)
-  where
-    m : ℕ
-    m = length a - 1 - i
-
-    p : List ℕ
-    p = take m a
-
-    q : List ℕ
-    q = drop (suc m) a
-
-    x : ℕ
-    x = get_or a m 0
-
-    size : length (reverse q) ≡ i
-    size = length-reverse q ∙ length-drop (suc m) a ∙ omega arith
-
-    parts : reverse a ≡ reverse q ++ (x ∷ reverse p)
-    parts = ap reverse (split_at a m 0 (omega arith)) ∙ reverse-append p (x ∷ q) ∙ ap (λ r. r ++ reverse p) (reverse-cons x q) ∙ append_snoc (reverse q) x (reverse p)
 
 -- the rotation by j, where w stands two times, and then z
 pub twice_part : (w z : List ℕ) (j : ℕ) → j ≤ length w → take (length w) (drop j (w ++ (w ++ z))) ≡ rotation j w

@@ -5,19 +5,15 @@ ghost use Rattle.words.specs.Reversal.{is_bracelet};
 ghost use Rattle.words.specs.Rotation.{is_necklace};
 ghost use Rattle.refusal.specs.Verdicts.{most_stations};
 
-use words::Order;
+use std::cmp::Ordering;
 
 // Writes the reverse of a row to the front of `out`.
 pub fn write_reversed(row: &[u8], out: &mut [u8])
     requires { length row.now ≤ length out.old }
     ensures { out.new ≡ fronted (reverse row.now) out.old }
 {
-    let n = row.len();
-    let mut i: usize = 0;
-    while i < n {
-        out[i] = row[n - 1 - i];
-        i += 1;
-    }
+    words::inner::write_front(row, out);
+    out[..row.len()].reverse();
 }
 
 // Whether a necklace is a bracelet: against the rotations of its reverse, up to the first that is not higher. The reverse is written two
@@ -30,21 +26,19 @@ pub fn is_bracelet(row: &[u8]) -> bool
     let mut back = [0u8; 2 * refusal::MOST_STATIONS];
     write_reversed(row, &mut back);
     write_reversed(row, &mut back[n..]);
-    let mut j: usize = 0;
-    while j < n {
+    for j in 0..n {
         let compared = words::compare(row, &back[j..j + n]);
         let order = compared.order;
         match order {
-            Order::Higher => {
+            Ordering::Greater => {
                 return false;
             }
             // the reverse has the row's own rotations
-            Order::Equal => {
+            Ordering::Equal => {
                 return true;
             }
-            Order::Lower => {}
+            Ordering::Less => {}
         }
-        j += 1;
     }
     true
 }

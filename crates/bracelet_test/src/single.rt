@@ -1,15 +1,6 @@
 // The turned-over key of single rows: specimens, and the refusals in their order. A case is the line that is printed,
 // up to the answer.
-use bracelet::TurnedAnswer;
 use test_rows::{FRESH, cases};
-
-fn print_key(answer: TurnedAnswer, n: usize, out: &[u8; 80]) {
-    match answer {
-        TurnedAnswer::Written => test_rows::print_row(n, out),
-        TurnedAnswer::Refused(r) => test_rows::print_refusal(r),
-    }
-    test_rows::print_as_before(test_rows::count_fresh(out));
-}
 
 // The turned-over key of a row, with a buffer of 80 bytes, of which some are lent.
 fn show_key(line: &[u8]) {
@@ -20,20 +11,11 @@ fn show_key(line: &[u8]) {
     let row = cases::symbols(digits);
     let mut out = [FRESH; 80];
     let answer = bracelet::turned_key(cases::part(&row, 0, digits.len()), &mut out[..room]);
-    print_key(answer, digits.len(), &out);
-}
-
-fn show_lines(text: &[u8]) {
-    let lines = test_rows::count(text, b'\n');
-    let mut i: usize = 0;
-    while i < lines {
-        show_key(cases::piece(text, b'\n', i));
-        i += 1;
-    }
+    test_rows::print_written(answer, digits.len(), &out);
 }
 
 pub fn show_all() {
-    show_lines(
+    cases::each(
         b"turned key of 6 stations 001101 buffer 80\n\
           turned key of 6 stations 001011 buffer 80\n\
           turned key of 6 stations 101100 buffer 7\n\
@@ -53,5 +35,7 @@ pub fn show_all() {
           turned key of 6 stations 001101 buffer 5\n\
           turned key of 6 stations 001101 buffer 0\n\
           turned key of 64 stations 0000000000000000000000000000000000000000000000000000000000000000 buffer 63\n",
+        b'\n',
+        show_key,
     );
 }

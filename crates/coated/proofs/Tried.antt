@@ -11,7 +11,7 @@ use Rattle.coated.proofs.SignedTurns.{down_gives, gives_down, gives_rotation, gi
 use Rattle.coated.specs.Answers.{turn_found}
 use Rattle.coated.specs.Claims.{Nearest}
 use Rattle.coated.specs.Fitting.{nearest_turn, rotates_to, rotation_by}
-use Rattle.coated.specs.declared.inner.Turn.TheVariants.{By, Never}
+use Rattle.std.specs.Prelude.{None, Some}
 use Rattle.words.proofs.Below.{le_or}
 use Rattle.words.proofs.Booleans.{never}
 use Rattle.words.proofs.OrderTests.{same→, →same}
@@ -33,10 +33,10 @@ differs {u} {v} f e = true≢false (sym (→same u v e) ∙ f)
 
 -- what is nearest is what the search has to answer
 nearest_found : (a b : List ℕ) (s : ℤ) → 0 < length a → Nearest a b s
-    → By s ≡ turn_found (rotates_to a b) (nearest_turn a b)
+    → Some s ≡ turn_found (rotates_to a b) (nearest_turn a b)
 nearest_found a b s h m =
     let r = gives_rotation a b s h m.gives in
-    rw (→rotates_to r) (ap By (nearest_one a b s (nearest_turn a b) m (nearest_is a b r)))
+    rw (→rotates_to r) (ap Some (nearest_one a b s (nearest_turn a b) m (nearest_is a b r)))
 
 module _ {a b : List ℕ} {i : ℕ} (t : Tried a b i) where
   -- the turn up by k is next
@@ -78,7 +78,7 @@ module _ {a b : List ℕ} {i : ℕ} (t : Tried a b i) where
       omega arith
 
   pub found_up : (k : ℕ) → i < length a → k + k ≡ i + 1 → same (rotation k a) b ≡ true
-      → By (pos k) ≡ turn_found (rotates_to a b) (nearest_turn a b)
+      → Some (pos k) ≡ turn_found (rotates_to a b) (nearest_turn a b)
   found_up k h z e =
       let few : k < length a = omega arith in
       nearest_found a b (pos k) (omega arith)
@@ -89,7 +89,7 @@ module _ {a b : List ℕ} {i : ℕ} (t : Tried a b i) where
       })
 
   pub found_down : (k : ℕ) → i < length a → k + k ≡ i → same (rotation (length a - k) a) b ≡ true
-      → By (neg_ℤ (pos k)) ≡ turn_found (rotates_to a b) (nearest_turn a b)
+      → Some (neg_ℤ (pos k)) ≡ turn_found (rotates_to a b) (nearest_turn a b)
   found_down zero h z e =
       nearest_found a b (pos 0) (omega arith)
       (record {
@@ -114,7 +114,7 @@ module _ {a b : List ℕ} {i : ℕ} (t : Tried a b i) where
           t.up (suc k) (omega arith) (omega arith) (up_gives a b (suc k) few (rw (← y) at g))
 
   -- after n turns all rotations are tried
-  pub found_none : length a ≤ i → Never ≡ turn_found (rotates_to a b) (nearest_turn a b)
+  pub found_none : length a ≤ i → None ≡ turn_found (rotates_to a b) (nearest_turn a b)
   found_none h = rw (never (rotates_to a b) (λ e. bad (rotates_to→ a b e)))
     where
       bad : IsRotation a b → ⊥

@@ -2,9 +2,8 @@
 ghost use Rattle.std.specs.Prelude.{◌≡◌, ◌<◌, ◌≤◌, length};
 ghost use Rattle.words.specs.Order.{same};
 ghost use Rattle.words.specs.Rotation.{rotation};
-ghost use Rattle.refusal.specs.Outcomes.{given};
 ghost use Rattle.refusal.specs.Verdicts.{most_stations};
-ghost use Rattle.coated.specs.Answers.{fit_outcome, turn_found};
+ghost use Rattle.coated.specs.Answers.{fit_told, turn_found};
 ghost use Rattle.coated.specs.Fitting.{fit_of, nearest_turn, rotates_to};
 
 use crate::FitAnswer;
@@ -16,6 +15,7 @@ pub fn is_rotation(row: &[u8], j: usize, other: &[u8]) -> bool
     ensures { result ≡ same (rotation j row.now) other.now }
 {
     let tail = row.len() - j;
+    // equal rows have the place 0 (words: NoDifference)
     let front = words::compare(&row[j..], &other[..tail]);
     if front.place != 0 {
         return false;
@@ -24,50 +24,39 @@ pub fn is_rotation(row: &[u8], j: usize, other: &[u8]) -> bool
     rest.place == 0
 }
 
-// The signed turn from one row to another, the nearest to zero, if there is one.
-#[derive(Clone, Copy)]
-pub enum Turn {
-    By(i64),
-    Never,
-}
-
-// The nearest turn from one row to another: 0, 1, -1, 2, -2 and so on, each of the n turns once.
-pub fn nearest_turn(row: &[u8], other: &[u8]) -> Turn
+// The signed turn from one row to another, the nearest to zero, if there is one: 0, 1, -1, 2, -2 and so on, each of the n turns is tried
+// once.
+pub fn nearest_turn(row: &[u8], other: &[u8]) -> Option<i64>
     requires { (0 < length row.now) × (length row.now ≤ most_stations) × (length other.now ≡ length row.now) }
     ensures { result ≡ turn_found (rotates_to row.now other.now) (nearest_turn row.now other.now) }
 {
     let n = row.len();
-    let mut k: usize = 0;
-    while k < n - k {
+    for k in 0..(n + 1) / 2 {
         if is_rotation(row, n - k, other) {
-            return Turn::By(0 - (k as i64));
+            return Some(-(k as i64));
         }
-        k += 1;
-        if k <= n - k && is_rotation(row, k, other) {
-            return Turn::By(k as i64);
+        let up = k + 1;
+        if up <= n - up && is_rotation(row, up, other) {
+            return Some(up as i64);
         }
     }
-    Turn::Never
+    None
 }
 
 // How a row fits another.
 pub fn fit_of(row: &[u8], other: &[u8]) -> FitAnswer
     requires { (0 < length row.now) × (length row.now ≤ most_stations) × (length other.now ≡ length row.now) }
-    ensures { fit_outcome result ≡ given (fit_of row.now other.now) }
+    ensures { fit_told result ≡ fit_of row.now other.now }
 {
     let n = row.len();
     let mut back = [0u8; refusal::MOST_STATIONS];
     bracelet::inner::write_reversed(row, &mut back);
     let plain = nearest_turn(row, other);
     let over = nearest_turn(&back[..n], other);
-    match plain {
-        Turn::By(s) => match over {
-            Turn::By(_) => FitAnswer::Both(s),
-            Turn::Never => FitAnswer::Turning(s),
-        },
-        Turn::Never => match over {
-            Turn::By(t) => FitAnswer::Over(t),
-            Turn::Never => FitAnswer::Different,
-        },
+    match (plain, over) {
+        (None, None) => FitAnswer::Different,
+        (Some(s), None) => FitAnswer::Turning(s),
+        (None, Some(t)) => FitAnswer::Over(t),
+        (Some(s), Some(_)) => FitAnswer::Both(s),
     }
 }

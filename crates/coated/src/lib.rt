@@ -11,7 +11,7 @@ use refusal::Refusal;
 pub mod inner;
 
 // How the first row fits the second, with the signed turn from the one to the other, the nearest to zero.
-#[derive(Clone, Copy)]
+#[derive(Clone, Copy, PartialEq, Eq)]
 pub enum FitAnswer {
     Different,
     // by turning only
@@ -20,27 +20,24 @@ pub enum FitAnswer {
     Over(i64),
     // by both: the plain turn
     Both(i64),
-    Refused(Refusal),
 }
 
 // How the first row fits the second.
-pub fn fit(row: &[u8], other: &[u8]) -> FitAnswer
+pub fn fit(row: &[u8], other: &[u8]) -> Result<FitAnswer, Refusal>
     ensures { fit_outcome result ≡ decide (fit_verdict row.now other.now) (fit_of row.now other.now) }
 {
     let n = row.len();
     if !refusal::are_stations(n) {
-        return FitAnswer::Refused(Refusal::Stations);
+        return Err(Refusal::Stations);
     }
     if other.len() != n {
-        return FitAnswer::Refused(Refusal::Limit);
+        return Err(Refusal::Limit);
     }
-    let wrong = words::first_wrong(row, 2);
-    if wrong != 0 {
-        return FitAnswer::Refused(Refusal::Symbol(wrong));
+    if let Some(place) = words::first_wrong(row, 2) {
+        return Err(Refusal::Symbol(place));
     }
-    let other_wrong = words::first_wrong(other, 2);
-    if other_wrong != 0 {
-        return FitAnswer::Refused(Refusal::Symbol(other_wrong));
+    if let Some(place) = words::first_wrong(other, 2) {
+        return Err(Refusal::Symbol(place));
     }
-    inner::fit_of(row, other)
+    Ok(inner::fit_of(row, other))
 }

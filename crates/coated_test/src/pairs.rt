@@ -3,7 +3,8 @@ ghost use Rattle.std.specs.Prelude.{◌<◌};
 
 use crate::signed;
 use coated::FitAnswer;
-use test_rows::cases;
+use refusal::Refusal;
+use test_rows::{cases, openings};
 
 // The byte of a sort, at an index: 0, 1, and the wrong bytes 2 and 255 by turns.
 fn byte(sort: usize, i: usize) -> u8 {
@@ -20,120 +21,101 @@ struct Numbered {
     n: usize,
 }
 
+impl Numbered {
+    fn symbols(&self) -> &[u8] {
+        cases::part(&self.row, 0, self.n)
+    }
+}
+
 // The row with a number. Over so many sorts of bytes all rows are numbered from 0, shorter rows first.
 fn row_of(number: usize, sorts: usize) -> Numbered
     requires { 0 < sorts }
 {
     let mut row = [0u8; refusal::MOST_STATIONS];
     let mut rest = number;
-    let mut n: usize = 0;
-    while n < refusal::MOST_STATIONS {
+    for n in 0..refusal::MOST_STATIONS {
         if rest == 0 {
             return Numbered { row, n };
         }
         row[n] = byte((rest - 1) % sorts, n);
         rest = (rest - 1) / sorts;
-        n += 1;
     }
-    Numbered { row, n }
+    Numbered {
+        row,
+        n: refusal::MOST_STATIONS,
+    }
 }
 
 // ---- what is due
 
-// The place of the first wrong byte, 0 where there is none.
-fn wrong_place(row: &[u8; refusal::MOST_STATIONS], n: usize) -> usize {
-    let mut i: usize = 0;
-    while i < refusal::MOST_STATIONS {
-        if i < n && 1 < row[i] {
-            return i + 1;
+// The place of the first wrong byte, from 1, looked for from the end.
+fn wrong_place(row: &[u8]) -> Option<usize> {
+    let mut place = None;
+    for i in (0..row.len()).rev() {
+        if 1 < row[i] {
+            place = Some(i + 1);
         }
-        i += 1;
     }
-    0
+    place
 }
 
-// An answer as a number: 0 for different; 10000 by turning only, 20000 by turning over only, 30000 by both, and the
-// turn; a refusal is 100 times its number and then its place.
+// An answer as a number, since parts of it are summed and printed: 0 for different; 10000 by turning only, 20000 by
+// turning over only, 30000 by both, and the turn; a refusal is 100 times its number and then its place.
 const TURNING: usize = 10000;
 
 const OVER: usize = 20000;
 
 const BOTH: usize = 30000;
 
-fn answer_told(answer: FitAnswer) -> usize {
+fn answer_told(answer: Result<FitAnswer, Refusal>) -> usize {
     match answer {
-        FitAnswer::Different => 0,
-        FitAnswer::Turning(s) => TURNING + signed::told(s),
-        FitAnswer::Over(s) => OVER + signed::told(s),
-        FitAnswer::Both(s) => BOTH + signed::told(s),
-        FitAnswer::Refused(r) => {
-            std::num::wrapping_add_usize(
-                test_rows::wide(refusal::number(r)) * 100,
-                refusal::place(r),
-            )
-        }
+        Ok(FitAnswer::Different) => 0,
+        Ok(FitAnswer::Turning(s)) => TURNING + signed::told(s),
+        Ok(FitAnswer::Over(s)) => OVER + signed::told(s),
+        Ok(FitAnswer::Both(s)) => BOTH + signed::told(s),
+        Err(r) => openings::refused(r),
     }
 }
 
-// No turn.
-const NONE: usize = 9999;
-
 // The nearest of the turns that take a row to another: all turns are looked at, each as one up and as one down.
-fn nearest(
-    row: &[u8; refusal::MOST_STATIONS],
-    n: usize,
-    other: &[u8; refusal::MOST_STATIONS],
-) -> usize {
-    let mut best: usize = NONE;
-    let mut amount: usize = NONE;
-    let mut j: usize = 0;
-    while j < n {
-        if test_rows::order(row, j, other, 0, n) == 1 {
+fn nearest(row: &[u8], other: &[u8]) -> Option<usize> {
+    let n = row.len();
+    let mut best = None;
+    let mut amount = usize::MAX;
+    for j in 0..n {
+        if test_rows::order(row, j, other, 0).is_eq() {
             if j <= amount {
-                best = j;
+                best = Some(j);
                 amount = j;
             }
             if n - j < amount {
-                best = std::num::wrapping_add_usize(5000, n - j);
+                best = Some(5000usize.wrapping_add(n - j));
                 amount = n - j;
             }
         }
-        j += 1;
     }
     best
 }
 
-fn answer_due(
-    row: &[u8; refusal::MOST_STATIONS],
-    n: usize,
-    other: &[u8; refusal::MOST_STATIONS],
-    other_n: usize,
-) -> usize {
-    if n == 0 {
+fn answer_due(row: &[u8], other: &[u8]) -> usize {
+    if row.is_empty() {
         return 100;
     }
-    if other_n != n {
+    if other.len() != row.len() {
         return 400;
     }
-    let place = wrong_place(row, n);
-    if place != 0 {
-        return std::num::wrapping_add_usize(300, place);
+    if let Some(place) = wrong_place(row).or(wrong_place(other)) {
+        return 300usize.wrapping_add(place);
     }
-    let other_place = wrong_place(other, n);
-    if other_place != 0 {
-        return std::num::wrapping_add_usize(300, other_place);
+    let back = test_rows::reversed(row);
+    let plain = nearest(row, other);
+    let over = nearest(cases::part(&back, 0, row.len()), other);
+    match (plain, over) {
+        (None, None) => 0,
+        (Some(turn), None) => TURNING.wrapping_add(turn),
+        (None, Some(turn)) => OVER.wrapping_add(turn),
+        (Some(turn), Some(_)) => BOTH.wrapping_add(turn),
     }
-    let plain = nearest(row, n, other);
-    let back = test_rows::reversed(row, n);
-    let over = nearest(&back, n, other);
-    if plain != NONE {
-        let way = if over == NONE { TURNING } else { BOTH };
-        return std::num::wrapping_add_usize(way, plain);
-    }
-    if over == NONE {
-        return 0;
-    }
-    std::num::wrapping_add_usize(OVER, over)
 }
 
 #[derive(Clone, Copy)]
@@ -142,37 +124,28 @@ struct Compared {
     agrees: bool,
 }
 
-fn compare(
-    row: &[u8; refusal::MOST_STATIONS],
-    n: usize,
-    other: &[u8; refusal::MOST_STATIONS],
-    other_n: usize,
-) -> Compared {
-    let answer = answer_told(coated::fit(cases::part(row, 0, n), cases::part(other, 0, other_n)));
+fn compare(row: &[u8], other: &[u8]) -> Compared {
+    let answer = answer_told(coated::fit(row, other));
     Compared {
         answer,
-        agrees: answer == answer_due(row, n, other, other_n),
+        agrees: answer == answer_due(row, other),
     }
 }
 
 // ---- pairs
 
 // A turn of a row, or of its reverse, by a quarter of the number; for each fourth number the first symbol is changed.
-fn partner(
-    row: &[u8; refusal::MOST_STATIONS],
-    n: usize,
-    number: usize,
-) -> [u8; refusal::MOST_STATIONS] {
-    let back = test_rows::reversed(row, n);
+fn partner(row: &[u8], number: usize) -> [u8; refusal::MOST_STATIONS] {
+    let n = row.len();
+    let back = test_rows::reversed(row);
+    let read = if number % 4 < 2 {
+        row
+    } else {
+        cases::part(&back, 0, n)
+    };
     let mut other = [0u8; refusal::MOST_STATIONS];
-    let mut i: usize = 0;
-    while i < refusal::MOST_STATIONS {
-        if i < n {
-            let x = test_rows::symbol(row, n, number / 4, i);
-            let y = test_rows::symbol(&back, n, number / 4, i);
-            other[i] = if number % 4 < 2 { x } else { y };
-        }
-        i += 1;
+    for (i, x) in other.iter_mut().take(n).enumerate() {
+        *x = test_rows::symbol(read, number / 4, i);
     }
     let first = other[0] % 2;
     other[0] = if number % 4 == 1 { 1 - first } else { first };
@@ -183,9 +156,10 @@ fn partner(
 fn compare_longer(number: usize) -> Compared {
     let p = test_rows::stations(number);
     let n = 11 + number % 54;
-    let row = test_rows::repeated(&test_rows::row_of_number(p, number), p, n);
-    let other = partner(&row, n, number);
-    compare(&row, n, &other, n)
+    let short = test_rows::row_of_number(p, number);
+    let longer = test_rows::repeated(cases::part(&short, 0, p), n);
+    let row = cases::part(&longer, 0, n);
+    compare(row, cases::part(&partner(row, number), 0, n))
 }
 
 // The pair with a number, of the first so many rows; with none of them, a longer row and a turn.
@@ -195,11 +169,9 @@ fn compare_pair(number: usize, sorts: usize, rows: usize) -> Compared
     if rows == 0 {
         return compare_longer(number);
     }
-    let first = row_of(number / rows, sorts);
-    let second = row_of(number % rows, sorts);
-    let row = first.row;
-    let other = second.row;
-    compare(&row, first.n, &other, second.n)
+    let row = row_of(number / rows, sorts);
+    let other = row_of(number % rows, sorts);
+    compare(row.symbols(), other.symbols())
 }
 
 // The sort of an answer: a refusal's number, 0 for different, 11 to 13 for the others.
@@ -220,16 +192,14 @@ fn compare_pairs(sorts: usize, rows: usize, pairs: usize)
     let mut sizes: usize = 0;
     let mut below: usize = 0;
     let mut told = [0usize; 100];
-    let mut pair: usize = 0;
-    while pair < pairs {
+    for pair in 0..pairs {
         let compared = compare_pair(pair, sorts, rows);
         let answer = compared.answer;
         let k = sort(answer);
-        agreed += test_rows::one_if(compared.agrees);
-        below += test_rows::one_if(answer / 5000 % 2 == 1);
-        sizes = std::num::wrapping_add_usize(sizes, answer % 100);
-        told[k] = std::num::wrapping_add_usize(told[k], 1);
-        pair += 1;
+        agreed += usize::from(compared.agrees);
+        below += usize::from(answer / 5000 % 2 == 1);
+        sizes = sizes.wrapping_add(answer % 100);
+        told[k] = told[k].wrapping_add(1);
     }
     test_rows::print_filled(b" compared # agreed #", &[pairs, agreed]);
     test_rows::print_filled(

@@ -5,15 +5,7 @@ ghost use Rattle.std.specs.Prelude.{◌≤◌};
 pub fn amount(turn: i64) -> usize
     ensures { result ≤ 65 }
 {
-    let mut k: usize = 0;
-    while k < 65 {
-        let up = k as i64;
-        if turn == up || turn == 0 - up {
-            return k;
-        }
-        k += 1;
-    }
-    65
+    turn.unsigned_abs().min(65) as usize
 }
 
 // A turn as a number: its amount, and 5000 more for one below zero.

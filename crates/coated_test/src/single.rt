@@ -24,26 +24,17 @@ fn show_fit(line: &[u8]) {
         cases::part(&other, 0, other_digits.len()),
     );
     match answer {
-        FitAnswer::Different => print_turn(b"different ", 0),
-        FitAnswer::Turning(s) => print_turn(b"turning ", s),
-        FitAnswer::Over(s) => print_turn(b"over ", s),
-        FitAnswer::Both(s) => print_turn(b"both ", s),
-        FitAnswer::Refused(r) => test_rows::print_refusal(r),
+        Ok(FitAnswer::Different) => print_turn(b"different ", 0),
+        Ok(FitAnswer::Turning(s)) => print_turn(b"turning ", s),
+        Ok(FitAnswer::Over(s)) => print_turn(b"over ", s),
+        Ok(FitAnswer::Both(s)) => print_turn(b"both ", s),
+        Err(r) => test_rows::print_refusal(r),
     }
     io::write_all(1, b"\n");
 }
 
-fn show_lines(text: &[u8]) {
-    let lines = test_rows::count(text, b'\n');
-    let mut i: usize = 0;
-    while i < lines {
-        show_fit(cases::piece(text, b'\n', i));
-        i += 1;
-    }
-}
-
 pub fn show_all() {
-    show_lines(
+    cases::each(
         b"fit of 6 stations 001011 and 101100\n\
           fit of 6 stations 101100 and 001011\n\
           fit of 6 stations 001011 and 011001\n\
@@ -94,5 +85,7 @@ pub fn show_all() {
             and 0000000000000000000000000000000000000000000000000000000000000002\n\
           fit of 64 stations 0000000000000000000000000000000000000000000000000000000000000002 \
             and 2000000000000000000000000000000000000000000000000000000000000000\n",
+        b'\n',
+        show_fit,
     );
 }

@@ -1,18 +1,12 @@
 // Rows of 300 bytes that differ in one byte, cut at many lengths, both ways round.
 ghost use Rattle.std.specs.Prelude.{◌<◌};
 
-use crate::plain;
+use crate::plain::Tally;
 use test_rows::cases;
 
 // The bytes fall from 255 to 0, and again from 255.
 fn falling() -> [u8; 300] {
-    let mut row = [0u8; 300];
-    let mut i: usize = 0;
-    while i < 300 {
-        row[i] = (255 - i % 256) as u8;
-        i += 1;
-    }
-    row
+    std::array::from_fn(|i| (255 - i % 256) as u8)
 }
 
 // A length to cut at: nothing, around a place, or around the end.
@@ -35,17 +29,15 @@ fn cut(k: usize, place: usize) -> usize
 // At each place 81 pairs of lengths. A cut behind the end leaves nothing.
 pub fn compare_all() {
     let row = falling();
-    let mut tally = plain::none();
-    let mut pair: usize = 0;
-    while pair < 24300 {
+    let mut tally = Tally::default();
+    for pair in 0..24300 {
         let place = pair / 81;
         let mut other = row;
-        other[place] = std::num::wrapping_sub_u8(255, row[place]);
+        other[place] = 255 - row[place];
         let a = cases::part(&row, 0, cut(pair / 9 % 9, place));
         let b = cases::part(&other, 0, cut(pair % 9, place));
         tally = tally.with(a, b);
         tally = tally.with(b, a);
-        pair += 1;
     }
     io::write_all(1, b"rows of up to 300 bytes: ");
     tally.print(48600);

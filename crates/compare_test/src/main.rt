@@ -1,4 +1,5 @@
-// The comparison of two rows: single pairs, all pairs of short rows, many of long ones, and parts of rows that begin anywhere, against plain search.
+// The comparison of two rows: single pairs, all pairs of short rows, many of long ones, and parts of rows that begin
+// anywhere, against plain search.
 #![tactic(auto)]
 
 mod long_rows;

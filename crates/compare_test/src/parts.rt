@@ -1,8 +1,5 @@
-// Rows of 0 to 40 bytes by rows of 0 to 40, which first differ at every place of both or at none, each a part of a larger row that begins behind
-// 0 to 9 bytes of it.
-ghost use Rattle.std.specs.Prelude.{◌≤◌};
-
-use crate::plain;
+// Rows of 0 to 40 bytes by rows of 0 to 40, which first differ at every place of both or at none, each a part of a
+// larger row that begins behind 0 to 9 bytes of it.
 use crate::plain::Tally;
 use test_rows::cases;
 
@@ -26,59 +23,46 @@ fn symbol(i: usize, agree: usize, here: u8, later: u8) -> u8 {
 }
 
 // The larger row, with a part that begins behind `start` bytes; `around` stands in front of the part and behind it.
-fn larger(start: usize, n: usize, agree: usize, here: u8, later: u8, around: u8) -> [u8; 64]
-    requires { (start ≤ 9) × (n ≤ 40) }
-{
+fn larger(start: usize, n: usize, agree: usize, here: u8, later: u8, around: u8) -> [u8; 64] {
     let mut row = [around; 64];
-    let mut i: usize = 0;
-    while i < n {
-        row[start + i] = symbol(i, agree, here, later);
-        i += 1;
+    for (i, x) in row.iter_mut().skip(start).take(n).enumerate() {
+        *x = symbol(i, agree, here, later);
     }
     row
 }
 
-// Each of 100 pairs of starts, and each of the 20 pairs of unequal bytes five times. Behind the first difference the bytes differ the other way.
-fn compare_starts(m: usize, n: usize, agree: usize, so_far: Tally) -> Tally
-    requires { (m ≤ 40) × (n ≤ 40) × (agree ≤ 40) }
-{
+// Each of 100 pairs of starts, and each of the 20 pairs of unequal bytes five times. Behind the first difference the
+// bytes differ the other way.
+fn compare_starts(m: usize, n: usize, agree: usize, so_far: Tally) -> Tally {
     let mut tally = so_far;
-    let mut k: usize = 0;
-    while k < 100 {
+    for k in 0..100 {
         let start = k / 10;
         let other_start = k % 10;
-        let pair = (k + m + 3 * agree) % 20;
+        let pair = (k + m % 20 + 3 * (agree % 20)) % 20;
         let x = byte(pair / 4);
         let y = byte(pair / 4 + 1 + pair % 4);
         let row = larger(start, m, agree, x, y, 255);
         let other = larger(other_start, n, agree, y, x, 0);
-        let a = cases::part(&row, start, start + m);
-        let b = cases::part(&other, other_start, other_start + n);
+        let a = cases::part(&row, start, m.saturating_add(start));
+        let b = cases::part(&other, other_start, n.saturating_add(other_start));
         tally = tally.with(a, b);
-        k += 1;
     }
     tally
 }
 
 // The parts agree in 0, 1, .. bytes, up to all of the shorter.
-fn compare_lengths(m: usize, n: usize, so_far: Tally) -> Tally
-    requires { (m ≤ 40) × (n ≤ 40) }
-{
+fn compare_lengths(m: usize, n: usize, so_far: Tally) -> Tally {
     let mut tally = so_far;
-    let mut agree: usize = 0;
-    while agree <= m && agree <= n {
+    for agree in 0..=m.min(n) {
         tally = compare_starts(m, n, agree, tally);
-        agree += 1;
     }
     tally
 }
 
 pub fn compare_all() {
-    let mut tally = plain::none();
-    let mut lengths: usize = 0;
-    while lengths < 1681 {
+    let mut tally = Tally::default();
+    for lengths in 0..1681 {
         tally = compare_lengths(lengths / 41, lengths % 41, tally);
-        lengths += 1;
     }
     io::write_all(1, b"parts of up to 40 bytes: ");
     tally.print(2382100);

@@ -1,19 +1,14 @@
 // Single pairs of rows. A case is the line that is printed, up to the answer.
+use std::cmp::Ordering;
 use test_rows::cases;
-use words::Order;
 
-fn print_order(order: Order) {
-    match order {
-        Order::Lower => {
-            io::write_all(1, b": lower");
-        }
-        Order::Equal => {
-            io::write_all(1, b": equal");
-        }
-        Order::Higher => {
-            io::write_all(1, b": higher");
-        }
-    }
+fn print_order(order: Ordering) {
+    let name: &[u8] = match order {
+        Ordering::Less => b": lower",
+        Ordering::Equal => b": equal",
+        Ordering::Greater => b": higher",
+    };
+    io::write_all(1, name);
 }
 
 fn show(line: &[u8]) {
@@ -25,24 +20,15 @@ fn show(line: &[u8]) {
         cases::part(&row, 0, digits.len()),
         cases::part(&other, 0, other_digits.len()),
     );
-    let order = compared.order;
     io::write_all(1, line);
-    print_order(order);
+    print_order(compared.order);
     test_rows::print_filled(b" place # pairs #\n", &[compared.place, compared.pairs]);
 }
 
-fn show_lines(text: &[u8]) {
-    let lines = test_rows::count(text, b'\n');
-    let mut i: usize = 0;
-    while i < lines {
-        show(cases::piece(text, b'\n', i));
-        i += 1;
-    }
-}
-
 pub fn show_all() {
-    // one row begins the other, then rows that differ, then equal rows; last, rows of words that differ in the first, in the second, behind them
-    show_lines(
+    // one row begins the other, then rows that differ, then equal rows; last, rows of words that differ in the first,
+    // in the second, behind them
+    cases::each(
         b"row 01 against 010\n\
           row 010 against 01\n\
           row  against 0\n\
@@ -76,5 +62,7 @@ pub fn show_all() {
           row 01234567012345670 against 01234567012345671\n\
           row 01234567012345670120 against 01234567012345670129012345\n\
           row 0123456701234567012 against 01234567012345670129012345\n",
+        b'\n',
+        show,
     );
 }

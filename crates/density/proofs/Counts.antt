@@ -4,12 +4,16 @@ use mathlib.Core.Path.{ap, refl, sym, ◌∙◌, ◌≡◌}
 use Prim.Native.Nat.{suc, zero, ℕ, ◌+◌, ◌-◌, ◌<◌, ◌≤◌}
 use native.Mathlib.Numerals.{add-one}
 use native.Mathlib.Omega.{arith}
+use borrow.Author.Tests.{ne_eqb}
 use lib.ListN.{get_or, length, take}
 use lib.Seq.{take-suc}
 use Rattle.density.specs.Density.{density}
 use Rattle.words.proofs.AllButLast.{by_last}
 use Rattle.words.specs.InnerScan.{◌▹◌}
 use Rattle.words.specs.Symbols.{ones, sum, zeros}
+use Rattle.std.specs.List.{count_by, sum as Std·sum}
+use Rattle.std.specs.Prelude.{cond, nat_eq}
+use Rattle.std.proofs.lemmas.List.Recursion.{is_count_by, is_sum_by}
 
 pub sum-append : (a b : List ℕ) → sum (a ++ b) ≡ sum a + sum b
 unfolding sum
@@ -88,3 +92,17 @@ module _ (w : List ℕ) (i : ℕ) (h : i < length w) where
   pub sum-take : sum (take (i + 1) w) ≡ sum (take i w) + get_or w i 0
   unfolding sum
   sum-take = rw (add-one, take-suc w i 0 h) (omega (arith, sum-append (take i w) (get_or w i 0 ∷ [])))
+
+-- as the library counts and sums
+pub density_counted : (w : List ℕ) → density w ≡ count_by (λ x. nat_eq x 1) w
+unfolding density
+density_counted = is_count_by density (λ x. nat_eq x 1) refl step
+  where
+    step : (x : ℕ) (xs : List ℕ) → density (x ∷ xs) ≡ cond (nat_eq x 1) (1 + density xs) (density xs)
+    step zero xs = refl
+    step (suc zero) xs = omega arith
+    step (suc (suc x)) xs = rw (ne_eqb (suc (suc x)) 1 (λ e. omega arith))
+
+pub sum_std : (w : List ℕ) → sum w ≡ Std·sum w
+unfolding sum
+sum_std = is_sum_by sum (λ x. x) refl (λ x xs. refl)

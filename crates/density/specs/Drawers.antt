@@ -4,9 +4,8 @@ use Rattle.words.specs.Claims.{FirstOther}
 use Rattle.words.specs.Symbols.{Within, first_wrong}
 use Rattle.refusal.specs.declared.Refusal.TheVariants.{Stations, Holes, Kind, Limit, Symbol}
 use Rattle.refusal.specs.Conditions.{Conditions, NoStations, NotOneTo, no_more, when}
-use Rattle.refusal.specs.Verdicts.{Verdict, accepted, refused, need, are_stations, most_stations}
+use Rattle.refusal.specs.Verdicts.{Verdict, accepted, need, are_stations, most_stations}
 use Rattle.density.specs.Necklaces.{is_kind}
-use Rattle.density.specs.declared.drawers.Checked.{Checked}
 
 -- 1, 2 and 5, in that order, before the rest; `taken` says whether the kind is one that the operation takes
 abbrev pub drawer_needs : ℕ → ℕ → Bool → Verdict → Verdict
@@ -23,11 +22,6 @@ drawer_verdict n d kind = drawer_needs n d (is_kind kind) accepted
 -- "Orders. .. Open: 1, 2, 5, 4, 3."
 unfoldable pub open_verdict : ℕ → ℕ → ℕ → List ℕ → Verdict
 open_verdict n d kind limit = drawer_needs n d (is_kind kind) (row_needs n limit)
-
--- the verdict that each answer of a check tells
-abbrev pub checked_verdict : Checked → Verdict
-checked_verdict Checked.Accepted = accepted
-checked_verdict (Checked.Refused r) = refused r
 
 -- ---- its conditions as plain facts
 

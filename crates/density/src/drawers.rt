@@ -1,50 +1,37 @@
-// A drawer of a kind, and a limit.
+// A drawer of a kind, and a limit: whether they meet no condition for the input.
 ghost use Rattle.std.specs.Prelude.{◌≡◌};
-ghost use Rattle.density.specs.Drawers.{checked_verdict, drawer_verdict, open_verdict};
+ghost use Rattle.density.specs.Drawers.{drawer_verdict, open_verdict};
+ghost use Rattle.refusal.specs.Outcomes.{decide};
 
 use crate::kinds::is_kind;
 use refusal::{Refusal, are_stations};
 
-// Whether a drawer, or a drawer and a limit, meet no condition for the input.
-#[derive(Clone, Copy)]
-pub enum Checked {
-    Accepted,
-    Refused(Refusal),
-}
-
 // Checks (n, d) and a kind.
-pub fn check_drawer(n: usize, d: usize, kind: u8) -> Checked
-    ensures { checked_verdict result ≡ drawer_verdict n d kind }
+pub fn check_drawer(n: usize, d: usize, kind: u8) -> Result<(), Refusal>
+    ensures { result ≡ decide (drawer_verdict n d kind) tt }
 {
     if !are_stations(n) {
-        return Checked::Refused(Refusal::Stations);
+        return Err(Refusal::Stations);
     }
     if n < d {
-        return Checked::Refused(Refusal::Holes);
+        return Err(Refusal::Holes);
     }
     if !is_kind(kind) {
-        return Checked::Refused(Refusal::Kind);
+        return Err(Refusal::Kind);
     }
-    Checked::Accepted
+    Ok(())
 }
 
 // Checks (n, d), a kind and a limit.
-pub fn check_opening(n: usize, d: usize, kind: u8, limit: &[u8]) -> Checked
-    ensures { checked_verdict result ≡ open_verdict n d kind limit.now }
+pub fn check_opening(n: usize, d: usize, kind: u8, limit: &[u8]) -> Result<(), Refusal>
+    ensures { result ≡ decide (open_verdict n d kind limit.now) tt }
 {
-    let checked = check_drawer(n, d, kind);
-    match checked {
-        Checked::Refused(r) => {
-            return Checked::Refused(r);
-        }
-        Checked::Accepted => {}
-    }
+    check_drawer(n, d, kind)?;
     if limit.len() != n {
-        return Checked::Refused(Refusal::Limit);
+        return Err(Refusal::Limit);
     }
-    let wrong = words::first_wrong(limit, 2);
-    if wrong != 0 {
-        return Checked::Refused(Refusal::Symbol(wrong));
+    if let Some(place) = words::first_wrong(limit, 2) {
+        return Err(Refusal::Symbol(place));
     }
-    Checked::Accepted
+    Ok(())
 }

@@ -14,39 +14,15 @@ pub fn padded(a: &[u8]) -> [u8; refusal::MOST_STATIONS]
     row
 }
 
-// The highest symbol, 0 of an empty row. Without an early exit, the loop runs on vectors.
-pub fn highest(s: &[u8]) -> u8
-    ensures { (b : ℕ) → all_up_to b s.now ≡ leb result b }
-{
-    let mut most: u8 = 0;
-    let mut i: usize = 0;
-    while i < s.len() {
-        let x = s[i];
-        if most < x {
-            most = x;
-        }
-        i += 1;
-    }
-    most
-}
-
-// The highest symbol of two rows of one length.
+// The highest symbol of two rows of one length, 0 of empty rows. Without an early exit, the loop runs on vectors.
 pub fn highest_of_two(s: &[u8], t: &[u8]) -> u8
     requires { length s.now ≡ length t.now }
     ensures { (b : ℕ) → (all_up_to b s.now && all_up_to b t.now) ≡ leb result b }
 {
     let mut most: u8 = 0;
-    let mut i: usize = 0;
-    while i < s.len() {
-        let x = s[i];
-        let y = t[i];
-        if most < x {
-            most = x;
-        }
-        if most < y {
-            most = y;
-        }
-        i += 1;
+    // by places: over a zip the proof knows the symbols by what was yielded, and says more
+    for i in 0..s.len() {
+        most = most.max(s[i]).max(t[i]);
     }
     most
 }

@@ -9,15 +9,14 @@ use lib.ListN.{drop, length, length-append}
 use lib.Seq.{drop-append_seam}
 use borrow.Author.Tests.{le-leb, lt-leb}
 use Rattle.drawer_input.proofs.Inputs.{all_read, misnamed, no_values, over_long, too_many}
-use Rattle.drawer_input.proofs.ValueLines.{line_found, line_read}
+use Rattle.drawer_input.proofs.ValueLines.{line as line_of_values, line_found, line_read}
 use Rattle.drawer_input.proofs.WrittenLines.{asked, found, standing}
 use Rattle.drawer_input.specs.Claims.{FirstExactly, FirstFaulty, LimitWritten, Named, NoOther, SecondExactly, SecondFaulty}
 use Rattle.drawer_input.specs.Claims.{Taken, TakenExactly, ThirdExactly, ThirdFaulty, ValueLine, names_line}
 use Rattle.drawer_input.specs.Input.{Asked, most_bytes, names, read_drawer, values_at}
 use Rattle.drawer_input.specs.declared.Values.{Values}
-use Rattle.drawer_input.specs.declared.Values.TheVariants.{Line, NoLine}
 use Rattle.refusal.proofs.Claims.{buffer_filled}
-use Rattle.refusal.specs.Outcomes.{Outcome, given, refused}
+use Rattle.std.specs.Prelude.{Option, Some, None, Result, Ok, Err}
 use Rattle.refusal.specs.declared.Refusal.{Refusal}
 use Rattle.refusal.specs.declared.Refusal.TheVariants.{Buffer, Text}
 use Rattle.text.specs.Ascii.{ascii}
@@ -45,7 +44,7 @@ module _ {s rest : List ℕ} (n : Named s rest) where
   whole_length : length s ≡ length names + length rest
   whole_length = ap length behind-names ∙ length-append names rest
 
-→first : (s : List ℕ) → FirstFaulty s → read_drawer s ≡ refused (Text 1)
+→first : (s : List ℕ) → FirstFaulty s → read_drawer s ≡ Err (Text 1)
 →first s (inl h) = over_long s h
 →first s (inr f) =
     ⊎_elim (λ h. misnamed s h (never (is_prefix names s) other)) (over_long s) (le_or (length s) most_bytes)
@@ -53,35 +52,35 @@ module _ {s rest : List ℕ} (n : Named s rest) where
     other : is_prefix names s ≡ true → ⊥
     other e = let r = is_prefix→ names s e in f r.0 (r.1 ∙ ap (λ l. l ++ r.0) names_line_lem)
 
-→second : (s : List ℕ) → SecondFaulty s → read_drawer s ≡ refused (Text 2)
+→second : (s : List ℕ) → SecondFaulty s → read_drawer s ≡ Err (Text 2)
 →second s f = go (values_at s (length names)) refl
   where
-    go : (v : Values) → v ≡ values_at s (length names) → read_drawer s ≡ refused (Text 2)
-    go NoLine e = no_values s f.named.few (is_named f.named) e
-    go (Line n d kind start size) e =
+    go : (v : Option Values) → v ≡ values_at s (length names) → read_drawer s ≡ Err (Text 2)
+    go None e = no_values s f.named.few (is_named f.named) e
+    go (Some v) e =
         let r = standing (line_read s (length names) e) in
         absurd (f.none r.line r.more _ (sym (rest_there f.named) ∙ r.whole) r.values)
 
-→third : (s : List ℕ) → ThirdFaulty s → read_drawer s ≡ refused (Text 3)
+→third : (s : List ℕ) → ThirdFaulty s → read_drawer s ≡ Err (Text 3)
 →third s f =
     let r = found s (length names) f.line f.more f.asked (rest_there f.named) f.values in
     let l = whole_length f.named ∙ ap (λ m. length names + m) (length-append f.line f.more) in
     too_many s f.named.few (is_named f.named) _ _ _ _ _ (line_found r.there) (λ e. omega arith)
 
-→taken : (s : List ℕ) (a : Asked) → Taken s a → read_drawer s ≡ given a
+→taken : (s : List ℕ) (a : Asked) → Taken s a → read_drawer s ≡ Ok a
 →taken s a t =
     let r = found s (length names) t.line [] a (rest_there t.named ∙ sym (append-nil t.line)) t.values in
     let end : r.start + r.size + 1 ≡ length s = omega (arith, whole_length t.named) in
     all_read s t.named.few (is_named t.named) _ _ _ _ _ (line_found r.there) end
-    ∙ ap (λ l. given (record { stations = a.stations; holes = a.holes; kind = a.kind; limit = l })) r.limit
+    ∙ ap (λ l. Ok (record { stations = a.stations; holes = a.holes; kind = a.kind; limit = l })) r.limit
 
 -- ---- what is read has its facts
 
-data Read (s : List ℕ) : Outcome Asked → Type 0 where
-  first : FirstFaulty s → Read s (refused (Text 1))
-  second : SecondFaulty s → Read s (refused (Text 2))
-  third : ThirdFaulty s → Read s (refused (Text 3))
-  taken : (a : Asked) → Taken s a → Read s (given a)
+data Read (s : List ℕ) : Result Asked Refusal → Type 0 where
+  first : FirstFaulty s → Read s (Err (Text 1))
+  second : SecondFaulty s → Read s (Err (Text 2))
+  third : ThirdFaulty s → Read s (Err (Text 3))
+  taken : (a : Asked) → Taken s a → Read s (Ok a)
 
 read : (s : List ℕ) → Read s (read_drawer s)
 read s =
@@ -89,7 +88,7 @@ read s =
     (le_or (length s) most_bytes)
   where
     ended : (n d kind start size : ℕ) (rest : List ℕ) → Named s rest
-        → Line n d kind start size ≡ values_at s (length names)
+        → line_of_values n d kind start size ≡ values_at s (length names)
         → (line more : List ℕ) → rest ≡ line ++ more → ValueLine line (asked s n d kind start size)
         → start + size + 1 ≡ length names + length line → Read s (read_drawer s)
     ended n d kind start size rest w e line [] p v b =
@@ -103,19 +102,19 @@ read s =
         subst (Read s) (sym (too_many s w.few (is_named w) n d kind start size e k))
         (third (record { line = line; more = x ∷ more; asked = _; named = rw (← p) w; values = v; some = omega arith }))
 
-    none : (rest : List ℕ) → Named s rest → NoLine ≡ values_at s (length names) → (line more : List ℕ) (a : Asked)
+    none : (rest : List ℕ) → Named s rest → None ≡ values_at s (length names) → (line more : List ℕ) (a : Asked)
         → rest ≡ line ++ more → ValueLine line a → ⊥
     none rest w e line more a p v =
         let r = found s (length names) line more a (rest_there w ∙ p) v in
         clash (cc (line_found r.there))
 
-    lines : (rest : List ℕ) → Named s rest → (v : Values) → v ≡ values_at s (length names) → Read s (read_drawer s)
-    lines rest w NoLine e =
+    lines : (rest : List ℕ) → Named s rest → (v : Option Values) → v ≡ values_at s (length names) → Read s (read_drawer s)
+    lines rest w None e =
         subst (Read s) (sym (no_values s w.few (is_named w) e))
         (second (record { rest = rest; named = w; none = none rest w e }))
-    lines rest w (Line n d kind start size) e =
+    lines rest w (Some v) e =
         let r = standing (line_read s (length names) e) in
-        ended n d kind start size rest w e r.line r.more (sym (rest_there w) ∙ r.whole) r.values r.behind
+        ended v.stations v.holes v.kind v.start v.size rest w e r.line r.more (sym (rest_there w) ∙ r.whole) r.values r.behind
 
     named : length s ≤ most_bytes → (t : Bool) → is_prefix names s ≡ t → Read s (read_drawer s)
     named h false n =
@@ -128,19 +127,19 @@ read s =
 
 -- ---- the claims
 
-is_first : {s : List ℕ} → Read s (refused (Text 1)) → FirstFaulty s
+is_first : {s : List ℕ} → Read s (Err (Text 1)) → FirstFaulty s
 is_first (first f) = f
 
-is_second : {s : List ℕ} → Read s (refused (Text 2)) → SecondFaulty s
+is_second : {s : List ℕ} → Read s (Err (Text 2)) → SecondFaulty s
 is_second (second f) = f
 
-is_third : {s : List ℕ} → Read s (refused (Text 3)) → ThirdFaulty s
+is_third : {s : List ℕ} → Read s (Err (Text 3)) → ThirdFaulty s
 is_third (third f) = f
 
-is_taken : {s : List ℕ} {a : Asked} → Read s (given a) → Taken s a
+is_taken : {s : List ℕ} {a : Asked} → Read s (Ok a) → Taken s a
 is_taken (taken a t) = t
 
-is_refused : {s : List ℕ} {r : Refusal} → Read s (refused r) → (r ≡ Text 1) ⊎ ((r ≡ Text 2) ⊎ (r ≡ Text 3))
+is_refused : {s : List ℕ} {r : Refusal} → Read s (Err r) → (r ≡ Text 1) ⊎ ((r ≡ Text 2) ⊎ (r ≡ Text 3))
 is_refused (first f) = inl refl
 is_refused (second f) = inr (inl refl)
 is_refused (third f) = inr (inr refl)

@@ -8,23 +8,26 @@ use lib.ListN.{drop, length, length-drop, length-map, take}
 use lib.Seq.{length-take-le}
 use borrow.Author.Tests.{eq-eqb, le-leb, lt-leb, ne_eqb}
 use Rattle.text.specs.Symbols.{symbol_of}
-use Rattle.drawer_input.specs.Input.{Asked, input_of, limit_filled, most_bytes, names, read_drawer, request_for, RequestValues, room_verdict, values_at}
-use Rattle.refusal.specs.Outcomes.{Outcome, filled, given, refused}
+use Rattle.drawer_input.specs.declared.Request.{Request}
+use Rattle.drawer_input.specs.Input.{Asked, input_of, limit_filled, most_bytes, names, read_drawer, request_for, room_verdict, values_at}
+use Rattle.refusal.specs.Outcomes.{filled}
+use Rattle.std.specs.Prelude.{Result, Ok, Err, None}
+use Rattle.refusal.specs.declared.Refusal.{Refusal}
 use Rattle.refusal.specs.declared.Refusal.TheVariants.{Text}
-use Rattle.drawer_input.specs.declared.Values.TheVariants.{Line, NoLine}
+use Rattle.drawer_input.proofs.ValueLines.{line}
 use Rattle.words.specs.Buffers.{fronted}
 use Rattle.words.specs.Tests.{is_prefix}
 
-pub from_input : (s out : List ℕ) (i : Outcome Asked) → read_drawer s ≡ i → (a : Outcome RequestValues) (o : List ℕ) → a ≡ request_for i (length out) → o ≡ limit_filled i out → (a ≡ request_for (read_drawer s) (length out)) × (o ≡ limit_filled (read_drawer s) out)
+pub from_input : (s out : List ℕ) (i : Result Asked Refusal) → read_drawer s ≡ i → (a : Result Request Refusal) (o : List ℕ) → a ≡ request_for i (length out) → o ≡ limit_filled i out → (a ≡ request_for (read_drawer s) (length out)) × (o ≡ limit_filled (read_drawer s) out)
 from_input s out i e a o p q = rw e (p, q)
 
 module _ (s : List ℕ) where
-  pub over_long : most_bytes < length s → read_drawer s ≡ refused (Text 1)
+  pub over_long : most_bytes < length s → read_drawer s ≡ Err (Text 1)
   unfolding read_drawer
   over_long h = rw (lt-leb (length s) most_bytes h)
 
   module _ (h : length s ≤ most_bytes) where
-    pub misnamed : is_prefix names s ≡ false → read_drawer s ≡ refused (Text 1)
+    pub misnamed : is_prefix names s ≡ false → read_drawer s ≡ Err (Text 1)
     unfolding read_drawer
     misnamed n = rw (le-leb (length s) most_bytes h, n)
 
@@ -33,14 +36,14 @@ module _ (s : List ℕ) where
       unfolding read_drawer
       named = rw (le-leb (length s) most_bytes h, n)
 
-      pub no_values : NoLine ≡ values_at s (length names) → read_drawer s ≡ refused (Text 2)
+      pub no_values : None ≡ values_at s (length names) → read_drawer s ≡ Err (Text 2)
       no_values e = named ∙ rw (← e)
 
-      module _ (m d k at size : ℕ) (e : Line m d k at size ≡ values_at s (length names)) where
-        pub too_many : (at + size + 1 ≡ length s → ⊥) → read_drawer s ≡ refused (Text 3)
+      module _ (m d k at size : ℕ) (e : line m d k at size ≡ values_at s (length names)) where
+        pub too_many : (at + size + 1 ≡ length s → ⊥) → read_drawer s ≡ Err (Text 3)
         too_many q = named ∙ rw (← e, ne_eqb (at + size + 1) (length s) q)
 
-        pub all_read : at + size + 1 ≡ length s → read_drawer s ≡ given (record { stations = m; holes = d; kind = k; limit = map symbol_of (take size (drop at s)) })
+        pub all_read : at + size + 1 ≡ length s → read_drawer s ≡ Ok (record { stations = m; holes = d; kind = k; limit = map symbol_of (take size (drop at s)) })
         all_read q = named ∙ rw (← e, eq-eqb (at + size + 1) (length s) q)
 
 -- the limit's length

@@ -1,6 +1,5 @@
 -- Which texts the drawer program takes, and which line refusal 10 names, as plain facts.
-use Rattle.std.specs.Prelude.{List, map, ◌++◌, ◌↔◌, ◌⊎◌, ◌≡◌, ℕ, ◌≤◌, ◌<◌, drop, length, take}
-use Rattle.refusal.specs.Outcomes.{given, refused}
+use Rattle.std.specs.Prelude.{Ok, Err, List, map, ◌++◌, ◌↔◌, ◌⊎◌, ◌≡◌, ℕ, ◌≤◌, ◌<◌, drop, length, take}
 use Rattle.refusal.specs.declared.Refusal.{Refusal}
 use Rattle.refusal.specs.declared.Refusal.TheVariants.{Text}
 use Rattle.text.specs.Ascii.{Every, IsUnspaced, ascii}
@@ -39,7 +38,7 @@ pub record Taken (s : List ℕ) (a : Asked) : Type 0 where
   pub values : ValueLine line a
 
 abbrev pub TakenExactly : Type 0
-TakenExactly = (s : List ℕ) (a : Asked) → (read_drawer s ≡ given a) ↔ Taken s a
+TakenExactly = (s : List ℕ) (a : Asked) → (read_drawer s ≡ Ok a) ↔ Taken s a
 
 -- ---- "10 names the first line that is faulty, missing or too many."
 
@@ -48,7 +47,7 @@ abbrev pub FirstFaulty : List ℕ → Type 0
 FirstFaulty s = (256 < length s) ⊎ ((rest : List ℕ) → s ≡ names_line ++ rest → ⊥)
 
 abbrev pub FirstExactly : Type 0
-FirstExactly = (s : List ℕ) → (read_drawer s ≡ refused (Text 1)) ↔ FirstFaulty s
+FirstExactly = (s : List ℕ) → (read_drawer s ≡ Err (Text 1)) ↔ FirstFaulty s
 
 -- line 2: no line of values follows the names
 pub record SecondFaulty (s : List ℕ) : Type 0 where
@@ -57,7 +56,7 @@ pub record SecondFaulty (s : List ℕ) : Type 0 where
   pub none : (line more : List ℕ) (a : Asked) → rest ≡ line ++ more → ValueLine line a → ⊥
 
 abbrev pub SecondExactly : Type 0
-SecondExactly = (s : List ℕ) → (read_drawer s ≡ refused (Text 2)) ↔ SecondFaulty s
+SecondExactly = (s : List ℕ) → (read_drawer s ≡ Err (Text 2)) ↔ SecondFaulty s
 
 -- line 3: more follows the line of values
 pub record ThirdFaulty (s : List ℕ) : Type 0 where
@@ -69,11 +68,11 @@ pub record ThirdFaulty (s : List ℕ) : Type 0 where
   pub some : 1 ≤ length more
 
 abbrev pub ThirdExactly : Type 0
-ThirdExactly = (s : List ℕ) → (read_drawer s ≡ refused (Text 3)) ↔ ThirdFaulty s
+ThirdExactly = (s : List ℕ) → (read_drawer s ≡ Err (Text 3)) ↔ ThirdFaulty s
 
 -- no other refusal, and no other line
 abbrev pub NoOther : Type 0
-NoOther = (s : List ℕ) (r : Refusal) → read_drawer s ≡ refused r → (r ≡ Text 1) ⊎ ((r ≡ Text 2) ⊎ (r ≡ Text 3))
+NoOther = (s : List ℕ) (r : Refusal) → read_drawer s ≡ Err r → (r ≡ Text 1) ⊎ ((r ≡ Text 2) ⊎ (r ≡ Text 3))
 
 -- ---- the buffer that is lent for the limit
 
@@ -81,7 +80,7 @@ NoOther = (s : List ℕ) (r : Refusal) → read_drawer s ≡ refused r → (r �
 abbrev pub LimitWritten : Type 0
 LimitWritten =
     (s out : List ℕ) → let after = limit_filled (read_drawer s) out in
-    ((r : Refusal) → read_drawer s ≡ refused r → after ≡ out)
-    × ((a : Asked) → read_drawer s ≡ given a → length a.limit ≤ length out
+    ((r : Refusal) → read_drawer s ≡ Err r → after ≡ out)
+    × ((a : Asked) → read_drawer s ≡ Ok a → length a.limit ≤ length out
     → (take (length a.limit) after ≡ a.limit) × (drop (length a.limit) after ≡ drop (length a.limit) out))
-    × ((a : Asked) → read_drawer s ≡ given a → length out < length a.limit → after ≡ out)
+    × ((a : Asked) → read_drawer s ≡ Ok a → length out < length a.limit → after ≡ out)

@@ -1,73 +1,56 @@
 // Inputs by the hundred, compared with what they must give.
-ghost use Rattle.std.specs.Prelude.{◌+◌, ◌<◌, ◌≤◌};
-
 use drawer_input::Request;
-use test_rows::FRESH;
+use refusal::Refusal;
+use test_rows::{FRESH, cases};
+use test_texts::Text;
 
-// Whether the answer is a drawer with 3 holes and kind 1, or, for a line from 1 on, a fault in that line.
-fn is_due(r: Request, stations: usize, size: usize, line: usize) -> bool {
-    match r {
-        Request::Drawer(n, d, kind, length) => {
-            line == 0 && n == stations && d == 3 && kind == 1 && length == size
-        }
-        Request::Refused(why) => refusal::number(why) == 10 && refusal::place(why) == line,
-    }
-}
-
-// An input with another byte at a place of its names, and the line at fault, or 0. Where no line is, the limit's
-// symbols are at the front of the lent buffer; all else in it is as it was.
-fn agrees(
-    stations: usize,
-    limit: &[u8],
-    symbols: &[u8],
-    place: usize,
-    byte: u8,
-    line: usize,
-) -> bool
-    requires { place < 26 }
-{
-    let mut text = [0u8; 8192];
-    let n = test_texts::fill(
-        &mut text,
-        0,
-        b"stations holes kind limit\n# 3 1 @\n",
-        stations,
-        0,
-        0,
-        0,
-        limit,
-    );
-    text[place] = byte;
+// Whether an input is read as is due. Where it is not at fault, the limit's symbols are at the front of the lent
+// buffer; all else in it is as it was.
+fn gives(input: &[u8], due: Result<Request, Refusal>, symbols: &[u8]) -> bool {
     let mut buffer = [FRESH; 256];
-    let r = drawer_input::read_drawer(&text[..n], &mut buffer);
-    if !is_due(r, stations, limit.len(), line) {
-        return false;
-    }
-    if line != 0 {
-        return test_texts::holds(&buffer, 0, b"");
-    }
-    test_texts::holds(&buffer, limit.len(), symbols)
+    let read = drawer_input::read_drawer(input, &mut buffer);
+    let front = if due.is_ok() { symbols } else { b"" };
+    read == due && test_texts::holds(&buffer, front.len(), front)
 }
 
-fn line_if(faulty: bool, line: usize) -> usize
-    ensures { result ≤ line }
-{
-    if faulty { line } else { 0 }
+// A drawer with 3 holes and kind 1, or the line at fault.
+fn due(stations: usize, size: usize, fault: Option<usize>) -> Result<Request, Refusal> {
+    match fault {
+        Some(line) => Err(Refusal::Text(line)),
+        None => Ok(Request {
+            stations,
+            holes: 3,
+            kind: 1,
+            size,
+        }),
+    }
+}
+
+fn agrees(stations: usize, limit: &[u8], symbols: &[u8], fault: Option<usize>) -> bool {
+    let mut input = Text::new();
+    input.add_input(stations, 3, 1, limit);
+    gives(input.as_slice(), due(stations, limit.len(), fault), symbols)
 }
 
 // The number n as the stations: read back below 1000.
 fn number_agrees(n: usize) -> bool {
-    agrees(n, b"111111", &[1; 6], 0, b's', line_if(999 < n, 2))
+    let fault = if n < 1000 { None } else { Some(2) };
+    agrees(n, b"111111", &[1; 6], fault)
 }
 
 // A limit of so many bytes: 223 of them fill a text of 256 bytes.
-fn length_agrees(size: usize) -> bool
-    requires { size ≤ 240 }
-{
-    let ones = [b'1'; 240];
-    let symbols = [1u8; 240];
-    let line = line_if(size == 0, 2) + line_if(223 < size, 1);
-    agrees(6, &ones[..size], &symbols[..size], 0, b's', line)
+fn length_agrees(size: usize) -> bool {
+    let fault = match size {
+        0 => Some(2),
+        1..=223 => None,
+        _ => Some(1),
+    };
+    agrees(
+        6,
+        cases::part(&[b'1'; 240], 0, size),
+        cases::part(&[1; 240], 0, size),
+        fault,
+    )
 }
 
 // The symbol that a byte of a limit stands for; 2 is no symbol.
@@ -81,56 +64,27 @@ fn symbol_due(b: u8) -> u8 {
 
 // The byte b as the limit.
 fn byte_agrees(b: u8) -> bool {
-    agrees(
-        1,
-        &[b],
-        &[symbol_due(b)],
-        0,
-        b's',
-        line_if(b == b'\n' || b == b' ', 2),
-    )
+    let fault = if b == b'\n' || b == b' ' {
+        Some(2)
+    } else {
+        None
+    };
+    agrees(1, &[b], &[symbol_due(b)], fault)
 }
 
 // The byte b at a place of the names.
-fn name_agrees(place: usize, b: u8) -> bool
-    requires { place < 26 }
-{
-    let names = b"stations holes kind limit\n";
-    agrees(1, b"0", &[0], place, b, line_if(names[place] != b, 1))
-}
-
-// 1100 numbers, 240 lengths, 256 bytes, and 256 bytes at each of 26 places of the names.
-fn case_agrees(i: usize) -> bool
-    requires { i < 8252 }
-{
-    if i < 1100 {
-        return number_agrees(i);
-    }
-    if i < 1340 {
-        return length_agrees(i - 1100);
-    }
-    if i < 1596 {
-        return byte_agrees((i - 1340) as u8);
-    }
-    name_agrees((i - 1596) / 256, ((i - 1596) % 256) as u8)
-}
-
-// So many cases from a first one on.
-fn compare(what: &[u8], first: usize, count: usize)
-    requires { first + count ≤ 8252 }
-{
-    let mut agreed: usize = 0;
-    let mut i: usize = 0;
-    while i < count {
-        agreed += test_rows::one_if(case_agrees(first + i));
-        i += 1;
-    }
-    test_rows::print_counts(what, count, agreed);
+fn name_agrees(place: usize, b: u8) -> bool {
+    let mut input = Text::new();
+    input.add_input(1, 3, 1, b"0");
+    let at = place % 26;
+    let fault = if input.bytes[at] == b { None } else { Some(1) };
+    input.bytes[at] = b;
+    gives(input.as_slice(), due(1, 1, fault), &[0])
 }
 
 pub fn compare_all() {
-    compare(b"numbers", 0, 1100);
-    compare(b"lengths", 1100, 240);
-    compare(b"bytes", 1340, 256);
-    compare(b"names", 1596, 6656);
+    test_rows::show_agreeing(b"numbers", 1100, number_agrees);
+    test_rows::show_agreeing(b"lengths", 240, length_agrees);
+    test_rows::show_agreeing(b"bytes", 256, |i| byte_agrees((i % 256) as u8));
+    test_rows::show_agreeing(b"names", 6656, |i| name_agrees(i / 256, (i % 256) as u8));
 }

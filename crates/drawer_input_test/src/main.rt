@@ -5,43 +5,29 @@ mod compare;
 
 ghost use Rattle.std.specs.Prelude.{◌≤◌};
 
-use drawer_input::Request;
 use test_rows::{FRESH, cases};
-
-fn print_request(r: Request, symbols: &[u8; 256]) {
-    match r {
-        Request::Drawer(stations, holes, kind, size) => {
-            test_rows::print_filled(b"# # # ", &[stations, holes, kind]);
-            test_rows::print_row(size, symbols);
-        }
-        Request::Refused(why) => test_rows::print_refusal(why),
-    }
-}
-
-fn print_fresh(symbols: &[u8; 256]) {
-    test_rows::print_as_before(test_rows::count_fresh(symbols));
-}
 
 // A line for an input, with a buffer of which room bytes are lent.
 fn show(text: &[u8], room: usize)
     requires { room ≤ 256 }
 {
     let mut limit = [FRESH; 256];
-    let r = drawer_input::read_drawer(text, &mut limit[..room]);
-    print_request(r, &limit);
-    print_fresh(&limit);
+    match drawer_input::read_drawer(text, &mut limit[..room]) {
+        Ok(request) => {
+            let numbers = [request.stations, request.holes, request.kind];
+            test_rows::print_filled(b"# # # ", &numbers);
+            test_rows::print_row(request.size, &limit);
+        }
+        Err(r) => test_rows::print_refusal(r),
+    }
+    test_rows::print_as_before(test_rows::count_fresh(&limit));
 }
 
 // A line for each input, of which each is ended by a `|`.
 fn show_each(texts: &[u8], room: usize)
     requires { room ≤ 256 }
 {
-    let count = test_rows::count(texts, b'|');
-    let mut i: usize = 0;
-    while i < count {
-        show(cases::piece(texts, b'|', i), room);
-        i += 1;
-    }
+    cases::each(texts, b'|', |text| show(text, room));
 }
 
 // Faults of the first line and of the second.

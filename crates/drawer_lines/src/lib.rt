@@ -16,6 +16,8 @@ const END: usize = 9;
 
 const REFUSAL: usize = 16;
 
+// How many bytes were written is 0 where there is no room, as `count_of` in each clause has it, so it is no Option.
+
 // The names of the program's output to the front of a buffer; how many bytes were written.
 pub fn write_header(out: &mut [u8]) -> usize
     ensures answer { result ≡ count_of header (length out.old) }
@@ -65,7 +67,8 @@ pub fn write_refusal(r: Refusal, out: &mut [u8]) -> usize
     ensures buffer { out.new ≡ written (refusal_text r) out.old }
     ensures short { length (refusal_text r) ≤ longest_line }
 {
-    let number = text::write::wide(refusal::number(r));
+    let number = u64::from(refusal::number(r));
+    // by `as`: no From leads from a usize to a u64
     let place = refusal::place(r) as u64;
     if out.len()
         < text::write::decimal_length(number) + text::write::decimal_length(place) + REFUSAL

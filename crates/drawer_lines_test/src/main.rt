@@ -6,32 +6,29 @@ mod compare;
 use refusal::Refusal;
 use test_rows::FRESH;
 
-fn show_header() {
+// What is written to the front of a buffer.
+fn show<F: FnOnce(&mut [u8]) -> usize>(write: F)
+    requires { F.IsAlwaysCallable write }
+{
     let mut out = [FRESH; 256];
-    let n = drawer_lines::write_header(&mut out);
+    let n = write(&mut out);
     test_texts::print_front(n, &out);
 }
 
 fn show_ring(number: u64, row: &[u8], period: u64, trials: u64) {
-    let mut out = [FRESH; 256];
-    let n = drawer_lines::write_ring(number, row, period, trials, &mut out);
-    test_texts::print_front(n, &out);
+    show(|out| drawer_lines::write_ring(number, row, period, trials, out));
 }
 
 fn show_end(trials: u64) {
-    let mut out = [FRESH; 256];
-    let n = drawer_lines::write_end(trials, &mut out);
-    test_texts::print_front(n, &out);
+    show(|out| drawer_lines::write_end(trials, out));
 }
 
 fn show_refusal(r: Refusal) {
-    let mut out = [FRESH; 256];
-    let n = drawer_lines::write_refusal(r, &mut out);
-    test_texts::print_front(n, &out);
+    show(|out| drawer_lines::write_refusal(r, out));
 }
 
 fn show_rings() {
-    let most = test_rows::MOST as u64;
+    let most = u64::MAX;
     show_ring(1, &[0, 1, 0, 1, 0, 1], 2, 11);
     show_ring(2, &[0, 0, 1, 1, 0, 1], 6, 6);
     show_ring(9, &[0], 1, 0);
@@ -47,7 +44,7 @@ fn show_ends() {
 }
 
 fn show_refusals() {
-    let most = test_rows::MOST;
+    let most = usize::MAX;
     show_refusal(Refusal::Stations);
     show_refusal(Refusal::Symbol(12));
     show_refusal(Refusal::Text(3));
@@ -56,7 +53,7 @@ fn show_refusals() {
 }
 
 fn main() {
-    show_header();
+    show(drawer_lines::write_header);
     show_rings();
     show_ends();
     show_refusals();

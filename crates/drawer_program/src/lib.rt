@@ -12,8 +12,8 @@ ghost use Rattle.drawer_program.specs.Read.{IsRead};
 use drawer_input::MOST_BYTES;
 use printing::Printing;
 
-// Where a printing has come to, and whether every piece of it was taken.
-#[derive(Clone, Copy)]
+// Where a printing has come to, and whether every piece of it was taken: a field, as the claim TextHandedOn names it.
+#[derive(Clone, Copy, PartialEq, Eq)]
 pub struct Handed {
     pub state: Printing,
     pub taken: bool,
@@ -35,21 +35,16 @@ pub fn hand_on(start: Printing) -> Handed
     let mut out = io::buffer();
     loop {
         let filled = state.fill(&mut out);
-        let used = filled.used;
-        let next = filled.state;
-        if !io::write_all(1, &out[..used]) {
+        state = filled.state;
+        if !io::write_all(1, &out[..filled.used]) {
             return Handed {
-                state: next,
+                state,
                 taken: false,
             };
         }
         if filled.done {
-            return Handed {
-                state: next,
-                taken: true,
-            };
+            return Handed { state, taken: true };
         }
-        state = next;
     }
 }
 

@@ -5,12 +5,14 @@ use Rattle.words.specs.Symbols.{sum}
 use Rattle.words.specs.InnerScan.{◌▹◌, next, Scan, barred, periodic, scan}
 use Rattle.density.specs.InnerBalanced.{balanced}
 
--- the Lyndon word g begins a necklace of density d with m more symbols: the largest necklace of those m symbols is not below g
+-- the Lyndon word g begins a necklace of density d with m more symbols: the largest necklace of those m symbols is not
+-- below g
 unfoldable pub fits : ℕ → ℕ → List ℕ → Bool
 fits d zero g = eqb (sum g) d
 fits d (suc m) g = leb (sum g) d && (leb (d - sum g) (suc m) && le g (balanced (suc m) (d - sum g)))
 
--- a has period p, and m symbols are to come. They go on with the period, to a power of the Lyndon word, or leave it upwards.
+-- a has period p, and m symbols are to come. They go on with the period, to a power of the Lyndon word, or leave it
+-- upwards.
 unfoldable pub continues : ℕ → ℕ → ℕ → List ℕ → Bool
 continues d p zero a = eqb (length a % p) 0 && eqb (sum a) d
 continues d p (suc m) a = eqb (next p a) 0 && fits d m (a ▹ 1) || continues d p m (a ▹ next p a)

@@ -8,8 +8,9 @@ ghost use Rattle.density.specs.Necklaces.{begins};
 ghost use Rattle.extension.specs.InnerSearch.{fits, continues};
 ghost use Rattle.refusal.specs.Verdicts.{most_stations};
 
-// Whether the Lyndon word g, of density h, begins a necklace of density d with m more symbols. g begins with z zeros and a 1.
-// The largest necklace of those symbols is compared with g: its first 1 by a product, the symbols behind it from an error term.
+// Whether the Lyndon word g, of density h, begins a necklace of density d with m more symbols. g begins with z zeros
+// and a 1. The largest necklace of those symbols is compared with g: its first 1 by a product, the symbols behind it
+// from an error term.
 pub fn goes_on(g: &[u8], m: usize, d: usize, h: usize, z: usize) -> bool
     requires { (m ≤ most_stations) × (h ≡ sum g.now) × (z < length g.now) × (length g.now ≤ most_stations) × Leading g.now z × Within 2 g.now }
     ensures { result ≡ fits d m g.now }
@@ -29,8 +30,7 @@ pub fn goes_on(g: &[u8], m: usize, d: usize, h: usize, z: usize) -> bool
         return false;
     }
     let mut error: usize = first - m;
-    let mut k: usize = z + 1;
-    while k < g.len() {
+    for k in z + 1..g.len() {
         if m <= k {
             return false;
         }
@@ -40,13 +40,13 @@ pub fn goes_on(g: &[u8], m: usize, d: usize, h: usize, z: usize) -> bool
             error -= m;
             s = 1;
         }
+        // by two tests, each with its own answer: a match on `cmp` names the third case too
         if g[k] < s {
             return true;
         }
         if s < g[k] {
             return false;
         }
-        k += 1;
     }
     true
 }
@@ -65,9 +65,8 @@ pub fn search_from(
     requires { (0 < p) × (p ≤ t) × (t ≤ n) × (n ≤ most_stations) × (h ≡ sum (take t x)) × (h ≤ t) × Within 2 x × Leading (take t x) z }
     ensures { result ≡ continues d p (n - t) (take t x) }
 {
-    let mut i = t;
     let mut ones = h;
-    while i < n {
+    for i in t..n {
         let c = x[i - p];
         x[i] = 1;
         if c == 0 {
@@ -79,8 +78,7 @@ pub fn search_from(
             }
         }
         x[i] = c;
-        ones += c as usize;
-        i += 1;
+        ones += usize::from(c);
     }
     n % p == 0 && ones == d
 }

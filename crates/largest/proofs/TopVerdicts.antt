@@ -8,9 +8,8 @@ use borrow.Author.Tests.{le-leb, lt-leb}
 use Rattle.density.proofs.BalancedRow.{balanced-length}
 use Rattle.density.proofs.Largest.{largest_balanced}
 use Rattle.density.specs.Necklaces.{largest_necklace}
-use Rattle.largest.specs.Top.{top_outcome, top_verdict}
-use Rattle.largest.specs.declared.Top.{Top}
-use Rattle.largest.specs.declared.Top.TheVariants.{Written}
+use Rattle.largest.specs.Top.{top_verdict}
+use Rattle.std.specs.Prelude.{Err, Ok, Result}
 use Rattle.refusal.proofs.Stations.{stations→}
 use Rattle.refusal.specs.Outcomes.{decide, filled}
 use Rattle.refusal.specs.Verdicts.{accepted, are_stations, refused}
@@ -31,11 +30,11 @@ pub accepts : (n d room : ℕ) → are_stations n ≡ true → d ≤ n → n ≤
 accepts n d room a h b = rw (a, le-leb d n h, le-leb n room b)
 
 -- what is promised of the answer r and of the buffer, o before and out after
-abbrev pub Promise : ℕ → ℕ → List ℕ → Top → List ℕ → Type 0
-Promise n d o r out = (top_outcome r ≡ decide (top_verdict n d (length o)) tt) × (out ≡ filled (top_verdict n d (length o)) (largest_necklace n d) o)
+abbrev pub Promise : ℕ → ℕ → List ℕ → Result Unit Refusal → List ℕ → Type 0
+Promise n d o r out = (r ≡ decide (top_verdict n d (length o)) tt) × (out ≡ filled (top_verdict n d (length o)) (largest_necklace n d) o)
 
 -- a refusal keeps it
-pub kept : (r : Refusal) (n d : ℕ) (o : List ℕ) → top_verdict n d (length o) ≡ refused r → Promise n d o (Top.Refused r) o
+pub kept : (r : Refusal) (n d : ℕ) (o : List ℕ) → top_verdict n d (length o) ≡ refused r → Promise n d o (Err r) o
 kept r n d o e = rw e (refl, refl)
 
 module _ (n d : ℕ) (row : List ℕ) (a : are_stations n ≡ true) (h : d ≤ n) (e : take n row ≡ largest_necklace n d) where
@@ -43,5 +42,5 @@ module _ (n d : ℕ) (row : List ℕ) (a : are_stations n ≡ true) (h : d ≤ n
   row_length = let s = (stations→ n a).some in ap length (e ∙ largest_balanced n d s h) ∙ balanced-length n d s n 0
 
   -- a row that is written keeps it
-  pub written : (o out : List ℕ) → n ≤ length o → out ≡ fronted (take n row) o → Promise n d o Written out
+  pub written : (o out : List ℕ) → n ≤ length o → out ≡ fronted (take n row) o → Promise n d o (Ok tt) out
   written o out b f = rw (accepts n d (length o) a h b) (refl, rw e at f)

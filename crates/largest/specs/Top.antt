@@ -1,20 +1,12 @@
 -- "Top ring of (n, d)": what the operation refuses and gives, and the two rules of document 01.
 use Rattle.std.specs.Prelude.{List, [], map, ◌++◌, ◌∷◌, suc, ℕ, ◌+◌, ◌-◌, leb, replicate}
 use Rattle.density.specs.Blocks.{blocks}
-use Rattle.largest.specs.declared.Top.{Top}
-use Rattle.largest.specs.declared.Top.TheVariants.{Refused, Written}
-use Rattle.refusal.specs.Outcomes.{Outcome, given, refused}
 use Rattle.refusal.specs.Verdicts.{Verdict, accepted, are_stations, need}
 use Rattle.refusal.specs.declared.Refusal.TheVariants.{Buffer, Holes, Stations}
 
 -- "Orders. .. Top: 1, 2, 9.", for a buffer of that many bytes
 abbrev pub top_verdict : ℕ → ℕ → ℕ → Verdict
 top_verdict n d room = need (are_stations n) Stations (need (leb d n) Holes (need (leb n room) Buffer accepted))
-
--- document 01's number for each answer: no value is returned beside the ring
-abbrev pub top_outcome : Top → Outcome Unit
-top_outcome Written = given tt
-top_outcome (Refused r) = refused r
 
 -- "the row of gaps t - b1, t - b2 and so on". A gap is the plain stations before a hole, and a pitch counts the hole
 -- too: gap c is pitch c + 1.

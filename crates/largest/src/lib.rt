@@ -5,17 +5,10 @@ ghost use Rattle.std.specs.Prelude.{◌≡◌, ◌-◌, ◌*◌, ◌%◌, ◌<�
 ghost use Rattle.density.specs.InnerBalanced.{balanced};
 ghost use Rattle.density.specs.Necklaces.{largest_necklace};
 ghost use Rattle.refusal.specs.Outcomes.{decide, filled};
-ghost use Rattle.largest.specs.Top.{top_outcome, top_verdict};
+ghost use Rattle.largest.specs.Top.{top_verdict};
 ghost use Rattle.refusal.specs.Verdicts.{most_stations};
 
 use refusal::{Refusal, are_stations};
-
-// The answer to the question of the top ring.
-#[derive(Clone, Copy)]
-pub enum Top {
-    Written,
-    Refused(Refusal),
-}
 
 // The row with few holes, from the row b of its d blocks: a block is n / d - b[k] zeros and a 1.
 fn join_few(b: [u8; refusal::MOST_STATIONS], n: usize, d: usize) -> [u8; refusal::MOST_STATIONS]
@@ -28,11 +21,10 @@ fn join_few(b: [u8; refusal::MOST_STATIONS], n: usize, d: usize) -> [u8; refusal
     let t = n / d;
     let mut row = [0u8; refusal::MOST_STATIONS];
     let mut p: usize = 0;
-    let mut k: usize = 0;
-    while k < d {
+    for k in 0..d {
+        // by `as`, and b[k] by its place: so the answers speak of the symbol itself
         p = p + t + 1 - b[k] as usize;
         row[p - 1] = 1;
-        k += 1;
     }
     row
 }
@@ -49,11 +41,10 @@ fn join_many(c: [u8; refusal::MOST_STATIONS], n: usize, d: usize) -> [u8; refusa
     let s = n / z;
     let mut row = [1u8; refusal::MOST_STATIONS];
     let mut p: usize = 0;
-    let mut k: usize = 0;
-    while k < z {
+    for k in 0..z {
         row[p] = 0;
+        // the same
         p = p + s + c[k] as usize;
-        k += 1;
     }
     row
 }
@@ -112,20 +103,20 @@ fn top_row(n: usize, d: usize) -> [u8; refusal::MOST_STATIONS]
 }
 
 // Writes the top ring of (n, d) to the front of the buffer.
-pub fn largest_necklace(n: usize, d: usize, out: &mut [u8]) -> Top
-    ensures answer { top_outcome result ≡ decide (top_verdict n d (length out.old)) tt }
+pub fn largest_necklace(n: usize, d: usize, out: &mut [u8]) -> Result<(), Refusal>
+    ensures answer { result ≡ decide (top_verdict n d (length out.old)) tt }
     ensures buffer { out.new ≡ filled (top_verdict n d (length out.old)) (largest_necklace n d) out.old }
 {
     if !are_stations(n) {
-        return Top::Refused(Refusal::Stations);
+        return Err(Refusal::Stations);
     }
     if n < d {
-        return Top::Refused(Refusal::Holes);
+        return Err(Refusal::Holes);
     }
     if out.len() < n {
-        return Top::Refused(Refusal::Buffer);
+        return Err(Refusal::Buffer);
     }
     let row = top_row(n, d);
     words::inner::write_front(&row[..n], out);
-    Top::Written
+    Ok(())
 }

@@ -4,7 +4,6 @@
 ghost use Rattle.std.specs.Prelude.{◌<◌, ◌≤◌};
 ghost use Rattle.refusal.specs.Verdicts.{most_stations};
 
-use largest::Top;
 use test_rows::FRESH;
 
 // Whether each symbol of the row is floor(i d / n) - floor((i - 1) d / n), at its place i.
@@ -14,14 +13,12 @@ fn agrees(n: usize, d: usize, row: &[u8; refusal::MOST_STATIONS]) -> bool
     requires d_le_most_stations { d ≤ most_stations }
 {
     let mut product: usize = 0;
-    let mut i: usize = 0;
-    while i < n {
+    for x in &row[..n] {
         let before = product / n;
         product += d;
-        if before + test_rows::wide(row[i]) != product / n {
+        if before + usize::from(*x) != product / n {
             return false;
         }
-        i += 1;
     }
     true
 }
@@ -33,36 +30,21 @@ fn top_agrees(n: usize, d: usize) -> bool
     requires d_le_most_stations { d ≤ most_stations }
 {
     let mut out = [FRESH; refusal::MOST_STATIONS];
-    let top = largest::largest_necklace(n, d, &mut out);
-    match top {
-        Top::Written => agrees(n, d, &out),
-        Top::Refused(_) => false,
-    }
+    let answer = largest::largest_necklace(n, d, &mut out);
+    answer.is_ok() && agrees(n, d, &out)
 }
 
 // All top rings of up to 64 stations.
 fn compare_all() {
     let mut compared: usize = 0;
     let mut agreed: usize = 0;
-    let mut n: usize = 1;
-    while n <= refusal::MOST_STATIONS {
-        let mut d: usize = 0;
-        while d <= n {
-            agreed += test_rows::one_if(top_agrees(n, d));
+    for n in 1..=refusal::MOST_STATIONS {
+        for d in 0..=n {
+            agreed += usize::from(top_agrees(n, d));
             compared += 1;
-            d += 1;
         }
-        n += 1;
     }
     test_rows::print_filled(b"compared # agreed #\n", &[compared, agreed]);
-}
-
-fn print_answer(top: Top, n: usize, out: &[u8; refusal::MOST_STATIONS]) {
-    match top {
-        Top::Written => test_rows::print_row(n, out),
-        Top::Refused(r) => test_rows::print_refusal(r),
-    }
-    test_rows::print_as_before(test_rows::count_fresh(out));
 }
 
 // A line for the question of (n, d) with a buffer of 64 bytes, of which room are lent.
@@ -70,22 +52,18 @@ fn show(n: usize, d: usize, room: usize)
     requires { room ≤ most_stations }
 {
     let mut out = [FRESH; refusal::MOST_STATIONS];
-    let top = largest::largest_necklace(n, d, &mut out[..room]);
+    let answer = largest::largest_necklace(n, d, &mut out[..room]);
     test_rows::print_filled(b"# # ", &[n, d]);
-    print_answer(top, n, &out);
+    test_rows::print_written(answer, n, &out);
 }
 
 fn show_all(most: usize)
     requires { most ≤ most_stations }
 {
-    let mut n: usize = 1;
-    while n <= most {
-        let mut d: usize = 0;
-        while d <= n {
+    for n in 1..=most {
+        for d in 0..=n {
             show(n, d, 64);
-            d += 1;
         }
-        n += 1;
     }
 }
 

@@ -12,25 +12,14 @@ use Rattle.density.specs.Choose.{choose}
 use Rattle.density.specs.Drawers.{open_verdict}
 use Rattle.density.specs.Lengths.{at_most, drawer_length, exactly}
 use Rattle.density.specs.Ranks.{rank}
+use Rattle.lengths.specs.Answers.{length_told}
+use Rattle.lengths.specs.declared.Length.{Length}
 use Rattle.lyndon_below.specs.InnerTables.{Given}
 use Rattle.pascal.proofs.LookUp.{in_table}
 use Rattle.pascal.specs.Answers.{ways_verdict}
 use Rattle.ranking.proofs.Verdicts.{kept_kind, row_given}
 use Rattle.ranking.specs.Answers.{is_counted}
-use Rattle.refusal.specs.Outcomes.{Outcome, decide, given}
 use Rattle.refusal.specs.Verdicts.{accepted}
-use Rattle.refusal.specs.declared.Refusal.{Refusal}
-use Rattle.words.proofs.Booleans.{clash}
-
--- a look-up that is accepted gives the ways
-ways_told : (n d : ℕ) (o : Outcome ℕ) → ways_verdict n d ≡ accepted → o ≡ decide (ways_verdict n d) (choose n d) → o ≡ given (choose n d)
-ways_told n d o v e = e ∙ ap (λ w. decide w (choose n d)) v
-
-pub ways_given : (n d x : ℕ) → ways_verdict n d ≡ accepted → given x ≡ decide (ways_verdict n d) (choose n d) → x ≡ choose n d
-ways_given n d x v e = let q = ways_told n d (given x) v e in cc
-
-pub not_refused : {P : Type 0} (n d : ℕ) (r : Refusal) → ways_verdict n d ≡ accepted → Outcome.refused r ≡ decide (ways_verdict n d) (choose n d) → P
-not_refused n d r v e = let q = ways_told n d (Outcome.refused r) v e in clash (cc)
 
 module _ (n d kind : ℕ) (limit : List ℕ) (e : open_verdict n d kind limit ≡ accepted) where
   passed : Passed n d kind limit
@@ -49,11 +38,12 @@ module _ (n d kind : ℕ) (limit : List ℕ) (e : open_verdict n d kind limit �
   counted h = sym (kept_kind kind (omega (arith, kind_known.1, h))) ∙ passed.drawer.kinds
 
   -- of kind 3 the ceiling
-  pub ceiling_length : (x : ℕ) → kind ≡ 3 → x ≡ choose n d → at_most x ≡ drawer_length n d kind limit
+  pub ceiling_length : (x : ℕ) → kind ≡ 3 → x ≡ choose n d → length_told (Length.AtMost x) ≡ drawer_length n d kind limit
   unfolding drawer_length
   ceiling_length x h q = rw (eq-eqb kind 3 h) (ap at_most q)
 
   -- else the rank of the limit
-  pub rank-length : (x : ℕ) → (kind ≡ 3 → ⊥) → x ≡ rank (length limit) d kind limit → exactly x ≡ drawer_length n d kind limit
+  pub rank-length : (x : ℕ) → (kind ≡ 3 → ⊥) → x ≡ rank (length limit) d kind limit
+      → length_told (Length.Exactly x) ≡ drawer_length n d kind limit
   unfolding drawer_length
   rank-length x h q = rw (ne_eqb kind 3 h) (ap exactly (q ∙ ap (λ m. rank m d kind limit) passed.long))

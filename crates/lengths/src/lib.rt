@@ -10,16 +10,14 @@ ghost use Rattle.pascal.specs.Answers.{ways_verdict};
 ghost use Rattle.refusal.specs.Outcomes.{decide};
 ghost use Rattle.refusal.specs.Verdicts.{accepted};
 
-use density::drawers::Checked;
-use pascal::Answer;
+use density::drawers::check_opening;
 use refusal::Refusal;
 
 // How many rings a walk has to give.
-#[derive(Clone, Copy)]
+#[derive(Clone, Copy, PartialEq, Eq)]
 pub enum Length {
     Exactly(u64),
     AtMost(u64),
-    Refused(Refusal),
 }
 
 // A ceiling on the rings of a drawer: the ways to choose d stations of n.
@@ -27,26 +25,17 @@ fn ceiling(n: usize, d: usize) -> u64
     requires { ways_verdict n d ≡ accepted }
     ensures { result ≡ choose n d }
 {
-    let answer = pascal::ways(n, d);
-    match answer {
-        Answer::Ways(x) => x,
-        Answer::Refused(_) => 0,
-    }
+    pascal::ways(n, d).unwrap()
 }
 
-// The length of a drawer from a limit: of kinds 1 and 2 exactly the rings that a walk opened there yields to its end, of kind 3 a ceiling.
-pub fn drawer_length(n: usize, d: usize, kind: u8, limit: &[u8]) -> Length
+// The length of a drawer from a limit: of kinds 1 and 2 exactly the rings that a walk opened there yields to its end,
+// of kind 3 a ceiling.
+pub fn drawer_length(n: usize, d: usize, kind: u8, limit: &[u8]) -> Result<Length, Refusal>
     ensures { length_outcome result ≡ decide (open_verdict n d kind limit.now) (drawer_length n d kind limit.now) }
 {
-    let checked = density::drawers::check_opening(n, d, kind, limit);
-    match checked {
-        Checked::Refused(r) => {
-            return Length::Refused(r);
-        }
-        Checked::Accepted => {}
-    }
+    check_opening(n, d, kind, limit)?;
     if kind == 3 {
-        return Length::AtMost(ceiling(n, d));
+        return Ok(Length::AtMost(ceiling(n, d)));
     }
-    Length::Exactly(ranking::inner::rank_of(limit, d, kind))
+    Ok(Length::Exactly(ranking::inner::rank_of(limit, d, kind)))
 }

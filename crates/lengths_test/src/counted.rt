@@ -1,39 +1,32 @@
 // All limits of a drawer, against counting the rings at or below each one by one; of kind 3, all rows with d holes.
 use crate::asked;
-use crate::drawers::{Tally, nothing, one, sum};
-use test_rows::cases;
-
-fn more_if(count: usize, holds: bool) -> usize {
-    std::num::wrapping_add_usize(count, test_rows::one_if(holds))
-}
+use lengths::Length;
+use test_rows::drawers::Tally;
+use test_rows::{Drawer, cases};
 
 fn rows_with(n: usize, d: usize) -> usize {
-    let rows = 1usize << (n % 16);
-    let mut counted: usize = 0;
-    let mut number: usize = 0;
-    while number < rows {
-        let row = test_rows::row_of_number(n, number);
-        counted = more_if(counted, test_rows::count(&row, 1) == d);
-        number += 1;
-    }
-    counted
+    let numbers = 0..1usize << (n % 16);
+    numbers
+        .filter(|number| test_rows::count(&test_rows::row_of_number(n, *number), 1) == d)
+        .count()
 }
 
 // The rows rise with their numbers. Summed: the lengths.
-pub fn compare(n: usize, d: usize, kind: u8) -> Tally {
-    let rows = 1usize << (n % 16);
-    let ceiling = rows_with(n, d);
+pub fn compare(drawer: Drawer) -> Tally {
+    let n = drawer.n;
+    let ceiling = rows_with(n, drawer.d);
     let mut rings: usize = 0;
-    let mut tally = nothing();
-    let mut number: usize = 0;
-    while number < rows {
-        let row = test_rows::row_of_number(n, number);
-        rings = more_if(rings, test_rows::is_ring(&row, n, d, kind));
-        let due = if kind == 3 { ceiling } else { rings };
-        let told = asked::length(n, d, kind, cases::part(&row, 0, n));
-        let agrees = told.number == asked::given(kind) && told.rings == due;
-        tally = sum(tally, one(agrees, told.rings));
-        number += 1;
+    let mut tally = Tally::default();
+    for number in 0..1usize << (n % 16) {
+        let symbols = test_rows::row_of_number(n, number);
+        let row = cases::part(&symbols, 0, n);
+        rings = rings.wrapping_add(usize::from(test_rows::is_ring(row, drawer)));
+        let told = asked::length(drawer, row);
+        tally = if drawer.kind == 3 {
+            tally.with(told == Ok(Length::AtMost(ceiling as u64)), ceiling)
+        } else {
+            tally.with(told == Ok(Length::Exactly(rings as u64)), rings)
+        };
     }
     tally
 }

@@ -1,59 +1,45 @@
 // Calls with numbers and limits in and out of range, in all combinations: what is refused, against a plain decision.
 use crate::asked;
-use test_rows::{cases, openings};
+use lengths::Length;
+use refusal::Refusal;
+use test_rows::openings::Outcome;
+use test_rows::{Drawer, openings};
 
-// What was told, and whether it was due.
-#[derive(Clone, Copy)]
-struct Outcome {
-    told: usize,
-    agrees: bool,
-}
+// What stands for a ceiling.
+const CEILING: usize = 600;
 
-fn due(n: usize, d: usize, kind: u8, length: usize, wrong: usize) -> usize {
-    let taken = 1 <= kind && kind <= 3;
-    let refusal = openings::row_refusal(n, d, taken, length, wrong);
-    if refusal == 0 {
-        asked::given(kind)
-    } else {
-        refusal
+// An exact length 0, a ceiling, or the refusal.
+fn told(length: Result<Length, Refusal>) -> usize {
+    match length {
+        Ok(Length::Exactly(_)) => 0,
+        Ok(Length::AtMost(_)) => CEILING,
+        Err(r) => openings::refused(r),
     }
 }
 
-// Drawers and limits are numbered.
-fn ask(drawer: usize, i: usize) -> Outcome {
-    let n = openings::stations(drawer);
-    let d = openings::holes(drawer);
-    let kind = openings::kind(drawer);
+fn due(drawer: Drawer, row: &openings::Row) -> usize {
+    let taken = 1 <= drawer.kind && drawer.kind <= 3;
+    let refusal = openings::row_refusal(drawer, taken, row);
+    if refusal == 0 && drawer.kind == 3 {
+        return CEILING;
+    }
+    refusal
+}
+
+// The length from limit i.
+fn ask(drawer: Drawer, i: usize) -> Outcome {
     let row = openings::numbered(i);
-    let bytes = row.bytes;
-    let told = asked::length(n, d, kind, cases::part(&bytes, 0, row.length));
+    let told = told(asked::length(drawer, row.symbols()));
     Outcome {
-        told: told.number,
-        agrees: told.number == due(n, d, kind, row.length, row.wrong),
+        told,
+        agrees: told == due(drawer, &row),
     }
-}
-
-// How many calls told each number.
-fn print_numbers(numbers: &[usize; 7]) {
-    test_rows::print_filled(
-        b"exactly # refused 1 # 2 # 3 # 4 # 5 # at most #\n",
-        numbers,
-    );
 }
 
 pub fn compare() {
-    let mut numbers = [0usize; 7];
-    let mut agreed: usize = 0;
-    let mut places: usize = 0;
-    let mut i: usize = 0;
-    while i < openings::DRAWERS * openings::ROWS {
-        let outcome = ask(i / openings::ROWS, i % openings::ROWS);
-        let number = outcome.told / 100 % 7;
-        numbers[number] = std::num::wrapping_add_usize(numbers[number], 1);
-        agreed += test_rows::one_if(outcome.agrees);
-        places = std::num::wrapping_add_usize(places, outcome.told % 100);
-        i += 1;
-    }
-    test_rows::print_filled(b"calls # agreed # places # ", &[i, agreed, places]);
-    print_numbers(&numbers);
+    openings::show_calls::<7, _>(
+        b"exactly # refused 1 # 2 # 3 # 4 # 5 # at most #\n",
+        openings::ROWS,
+        ask,
+    );
 }

@@ -1,40 +1,25 @@
-// Lengths of single drawers: short and longest, and the refusals in their order. A case is the line that is printed, up to the answer.
+// Lengths of single drawers: short and longest, and the refusals in their order. A case is the line that is printed, up
+// to the answer.
+use crate::asked;
 use lengths::Length;
 use test_rows::cases;
 
 fn show(line: &[u8]) {
     io::write_all(1, line);
-    let kind = cases::number_to(line, 3, 255) as u8;
+    io::write_all(1, b": ");
     let digits = cases::word(line, 4);
     let row = cases::symbols(digits);
-    let length = lengths::drawer_length(
-        cases::number(line, 1),
-        cases::number(line, 2),
-        kind,
-        cases::part(&row, 0, digits.len()),
-    );
-    match length {
-        Length::Exactly(x) => test_rows::print_named(b": exactly ", x as usize),
-        Length::AtMost(x) => test_rows::print_named(b": at most ", x as usize),
-        Length::Refused(r) => {
-            io::write_all(1, b": ");
-            test_rows::print_refusal(r);
-        }
+    let limit = cases::part(&row, 0, digits.len());
+    match asked::length(cases::drawer(line, 1), limit) {
+        Ok(Length::Exactly(x)) => test_rows::print_named(b"exactly ", x as usize),
+        Ok(Length::AtMost(x)) => test_rows::print_named(b"at most ", x as usize),
+        Err(r) => test_rows::print_refusal(r),
     }
     io::write_all(1, b"\n");
 }
 
-fn show_lines(text: &[u8]) {
-    let lines = test_rows::count(text, b'\n');
-    let mut i: usize = 0;
-    while i < lines {
-        show(cases::piece(text, b'\n', i));
-        i += 1;
-    }
-}
-
 pub fn show_all() {
-    show_lines(
+    cases::each(
         b"length 6 3 1 111111\n\
           length 6 3 2 111111\n\
           length 6 3 3 111111\n\
@@ -72,5 +57,7 @@ pub fn show_all() {
           length 4 2 3 2013\n\
           length 4 2 2 0102\n\
           length 64 32 3 0000000000000000000000000000000000000000211111111111111111111111\n",
+        b'\n',
+        show,
     );
 }

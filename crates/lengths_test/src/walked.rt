@@ -1,7 +1,7 @@
 // The rings of walks to their end, against the length.
 use crate::asked;
-use crate::drawers::Tally;
-use test_rows::cases;
+use test_rows::drawers::Tally;
+use test_rows::{Drawer, cases};
 use walk::{Answer, Walk};
 
 // More trials than any walk here takes.
@@ -10,34 +10,30 @@ pub const PLENTY: u64 = 16384;
 // More steps: each but the last gives a ring or makes a trial.
 const STEPS: usize = 32768;
 
-// The rings named before none; without end, the highest number.
-fn rings(n: usize, d: usize, kind: u8, limit: &[u8], allowance: u64) -> usize {
-    let opened = Walk::open(n, d, kind, limit);
+// The rings named before none, if it comes.
+fn rings(drawer: Drawer, limit: &[u8], allowance: u64) -> Option<usize> {
+    let opened = Walk::open(drawer.n, drawer.d, drawer.kind, limit);
     let mut walk = opened.walk;
     let mut rings: usize = 0;
-    let mut step: usize = 0;
-    while step < STEPS {
+    for _ in 0..STEPS {
         let stepped = walk.step(allowance);
         walk = stepped.walk;
-        let answer = stepped.answer;
-        match answer {
-            Answer::Ring => {
-                rings = std::num::wrapping_add_usize(rings, 1);
-            }
-            Answer::None => {
-                return rings;
-            }
-            Answer::Refused(_) => {}
+        match stepped.answer {
+            Ok(Answer::Ring) => rings = rings.wrapping_add(1),
+            Ok(Answer::None) => return Some(rings),
+            Err(_) => {}
         }
-        step += 1;
     }
-    test_rows::MOST
+    None
 }
 
 // Summed: the rings.
-pub fn compare(n: usize, d: usize, kind: u8, limit: usize, allowance: u64) -> Tally {
-    let row = test_rows::row_of_number(n, limit);
-    let rings = rings(n, d, kind, cases::part(&row, 0, n), allowance);
-    let told = asked::length(n, d, kind, cases::part(&row, 0, n));
-    crate::drawers::one(asked::covers(told, kind, rings), rings)
+pub fn compare(drawer: Drawer, limit: usize, allowance: u64) -> Tally {
+    let symbols = test_rows::row_of_number(drawer.n, limit);
+    let row = cases::part(&symbols, 0, drawer.n);
+    let Some(rings) = rings(drawer, row, allowance) else {
+        return Tally::default().with(false, 0);
+    };
+    let told = asked::length(drawer, row);
+    Tally::default().with(asked::covers(told, drawer.kind, rings), rings)
 }

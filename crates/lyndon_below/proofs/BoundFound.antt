@@ -1,23 +1,23 @@
 -- The bound, where there is one, begins a necklace; of the rows, those that have no rotation up to it are above it.
-use mathlib.Core.Bool.{Bool, false, true}
+use mathlib.Core.Bool.{Bool}
 use mathlib.Core.List.{List}
 use mathlib.Core.Path.{ap, refl, subst, sym, ◌∙◌, ◌≡◌}
 use Prim.Native.Nat.{suc, ℕ, ◌-◌, ◌/◌, ◌<◌, ◌≤◌}
-use native.Mathlib.Nat.{min-le_right}
 use native.Mathlib.Omega.{arith}
-use lib.ListN.{length, length-take, take}
+use lib.ListN.{length, take}
 use Rattle.counting.proofs.Ceilings.{above_few}
 use Rattle.counting.proofs.Recursion.{factor_fits}
 use Rattle.counting.proofs.RowsBelow.{Bounds, bounded, count_to, highest_is, m_pos, no_bound, rows_below_lem, v_binary, v_long}
 use Rattle.counting.specs.InnerRoots.{rows_above, rows_below}
-use Rattle.counting.specs.InnerBound.{Bound, at, highest_up_to, none, only_if}
+use Rattle.counting.specs.InnerBound.{Bound, at, highest_up_to, none}
 use Rattle.density.specs.Choose.{choose}
 use Rattle.density.proofs.Binary.{Binary}
 use Rattle.pascal.proofs.LookUp.{in_table, looked_up}
-use Rattle.pascal.specs.Answers.{ways_outcome, ways_verdict}
+use Rattle.pascal.specs.Answers.{ways_verdict}
 use Rattle.pascal.specs.Pascal.{entry_of, last_row, triangle}
-use Rattle.pascal.specs.declared.Answer.{Answer}
-use Rattle.refusal.specs.Outcomes.{decide, given}
+use Rattle.refusal.specs.Outcomes.{decide}
+use Rattle.refusal.specs.declared.Refusal.{Refusal}
+use Rattle.std.specs.Prelude.{Ok, Result}
 use Rattle.rows_above.specs.InnerTables.{Opening}
 use Rattle.lyndon_below.specs.InnerParts.{Part}
 use Rattle.words.proofs.Power.{power}
@@ -49,6 +49,15 @@ module _ (w : List ℕ) (m e : ℕ) (s : Part w m e) where
   below : rows_below (length w) w m e ≡ count_to (highest_up_to (le (power (length w / m) (take m w)) w) (take m w)) m e
   below = rows_below_lem (length w) w m e s.some s.divides refl s.binary
 
+  -- the ways that the table has
+  pub ways_found : (t : List ℕ) {r : Result ℕ Refusal} → t ≡ triangle (suc last_row)
+      → r ≡ decide (ways_verdict m e) (entry_of t m e) → r ≡ Ok (choose m e)
+  ways_found t p q =
+      q
+      ∙ ap (λ x. decide (ways_verdict m e) (entry_of x m e)) p
+      ∙ looked_up m e
+      ∙ ap (λ v. decide v (choose m e)) (in_table m e (omega (arith, m_fits, s.few)) s.dense)
+
   -- the bound found
   module _ (t : Bool) (u : List ℕ) (is : at u ≡ highest_up_to t (take m w)) where
     pub opening : (length u ≡ m) × Opening u
@@ -62,17 +71,3 @@ module _ (w : List ℕ) (m e : ℕ) (s : Part w m e) where
 
   pub counted_none : (t : Bool) → none ≡ highest_up_to t (take m w) → t ≡ le (power (length w / m) (take m w)) w → 0 ≡ rows_below (length w) w m e
   counted_none t is q = ap (λ h. count_to h m e) (is ∙ ap (λ b. highest_up_to b (take m w)) q) ∙ sym below
-
--- what the search gives: a row, or none
-pub is_bound : (f : Bool) (row : List ℕ) (k m : ℕ) → f ≡ true → k ≡ m → {h : Bound} → only_if f (take k row) ≡ h → at (take m row) ≡ h
-is_bound f row k m t e q = rw (t, e) at q
-
-pub is_none : (f : Bool) (row : List ℕ) → f ≡ false → {h : Bound} → only_if f row ≡ h → none ≡ h
-is_none f row t q = rw t at q
-
-pub take-fits : (m : ℕ) (l : List ℕ) → length (take m l) ≡ m → m ≤ length l
-take-fits m l e = omega (arith, e, length-take m l, min-le_right m (length l))
-
--- the ways that the table has
-pub ways_found : (m e : ℕ) (t : List ℕ) (a : Answer) → t ≡ triangle (suc last_row) → m ≤ last_row → e ≤ m → ways_outcome a ≡ decide (ways_verdict m e) (entry_of t m e) → ways_outcome a ≡ given (choose m e)
-ways_found m e t a p h k q = q ∙ ap (λ x. decide (ways_verdict m e) (entry_of x m e)) p ∙ looked_up m e ∙ ap (λ v. decide v (choose m e)) (in_table m e h k)

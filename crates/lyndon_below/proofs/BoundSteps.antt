@@ -1,15 +1,14 @@
 -- The search for the highest prenecklace below v, from the last symbol of v to the first.
-use mathlib.Core.Bool.{Bool, false, not, true}
+use mathlib.Core.Bool.{Bool, false, true}
 use mathlib.Core.List.{List, [], append_assoc, append-nil, ◌++◌, ◌∷◌}
 use mathlib.Core.Path.{ap, refl, sym, ◌∙◌, ◌≡◌}
 use Prim.Native.Nat.{suc, zero, ℕ, ◌-◌, ◌<◌, ◌≤◌}
 use native.Mathlib.Omega.{arith}
-use lib.Dec.{eqb, eqb-suc-zero}
 use lib.ListN.{drop, drop_of_length-le, get_or, length, length-drop, length-set, set, take}
 use lib.Seq.{drop-cons, get_or_at, get_or-take, length-take-le, set_at, set-set, take_all, take_at, take-set-lt, take-suc, take-suc-set, take-take}
 use Rattle.counting.specs.InnerBound.{Bound, at, highest_below, highest_up_to, none, only_if, or_else, passes}
 use Rattle.refusal.specs.Verdicts.{most_stations}
-use Rattle.words.specs.InnerScan.{coded, scan, ◌▹◌}
+use Rattle.words.specs.InnerScan.{scan, ◌▹◌}
 use Rattle.words.specs.Symbols.{ones, zeros}
 
 -- ---- the definition, one symbol of v at a time
@@ -119,11 +118,6 @@ module _ (v row : List ℕ) (q : ℕ) (few : length v ≤ most_stations) (s : Se
 
   pub next_one : get_or v q 0 ≡ 1 → passes (scan (take q v ▹ 0)) ≡ false → Search v (set (set row q 0) q 1) q
   next_one z f = next (back_one v q inner z s.nothing ∙ rw f)
-
--- a period other than 0 says that the row begins a necklace
-pub coded-passes : (p : ℕ) → not (eqb p 0) ≡ passes (coded p)
-coded-passes zero = refl
-coded-passes (suc p) = ap not (eqb-suc-zero p)
 
 -- ---- v itself, or what is below it
 

@@ -1,5 +1,4 @@
 -- A row against a power of its first symbols: the row against itself, some places on.
-use mathlib.Core.Bool.{Bool, false, true}
 use mathlib.Core.List.{List, [], ◌++◌, ◌∷◌}
 use mathlib.Core.Path.{ap, ap₂, refl, subst, sym, ◌∙◌, ◌≡◌}
 use Prim.Native.Nat.{Ordering, compare, suc, zero, ℕ, ◌*◌, ◌+◌, ◌-◌, ◌/◌, ◌<◌, ◌≤◌}
@@ -12,8 +11,8 @@ use Rattle.counting.proofs.Recursion.{factor_pos}
 use Rattle.words.proofs.Below.{Means, cmp_means, cmp_under, is_eq, is_gt, is_less, ◌≺◌}
 use Rattle.words.proofs.Power.{power}
 use Rattle.words.specs.Order.{cmp, head_first, le, order_of}
-use Rattle.words.specs.declared.Order.{Order}
-use Rattle.words.specs.declared.Order.TheVariants.{Higher}
+use Rattle.std.specs.declared.cmp.Ordering.{Ordering as Answer}
+use Rattle.std.proofs.Common.{is_le as at_most}
 
 cmp_parts : (u a x b : List ℕ) → length u ≡ length a → cmp (u ++ x) (a ++ b) ≡ head_first (cmp u a) (cmp x b)
 unfolding cmp
@@ -71,27 +70,16 @@ power_test w m p h = go (length w / m) (factor_pos m (length w / m) (length w) p
         ∙ power_cmp j v r times
         ∙ ap₂ cmp (ap (λ n. take n (v ++ r)) size-r ∙ ap (take (length w - m)) whole) (sym all))
 
--- ---- the three answers of the comparison
+-- ---- the answer of the comparison
 
 abbrev pub shifted : List ℕ → ℕ → Ordering
 shifted w m = cmp (take (length w - m) w) (take (length w - m) (drop m w))
 
-module _ (w : List ℕ) (m : ℕ) (p : 0 < length w) (h : m * (length w / m) ≡ length w) where
-  answer : (b : Bool) (o : Ordering) → shifted w m ≡ o → b ≡ is_le o → b ≡ le (power (length w / m) (take m w)) w
-  answer b o e i = i ∙ ap is_le (sym e) ∙ sym (power_test w m p h)
+at_most_told : (o : Ordering) → at_most (order_of o) ≡ is_le o
+at_most_told Ordering.lt = refl
+at_most_told Ordering.eq = refl
+at_most_told Ordering.gt = refl
 
-  pub if_higher : (a : Order) → a ≡ order_of (shifted w m) → a ≡ Higher → false ≡ le (power (length w / m) (take m w)) w
-  if_higher a e f = go (shifted w m) refl (sym e ∙ f)
-    where
-      go : (o : Ordering) → shifted w m ≡ o → order_of o ≡ Higher → false ≡ le (power (length w / m) (take m w)) w
-      go Ordering.lt q e = let z : ◌≡◌ {A = ℕ} 0 1 = cc in absurd (omega arith)
-      go Ordering.eq q e = let z : ◌≡◌ {A = ℕ} 0 1 = cc in absurd (omega arith)
-      go Ordering.gt q e = answer false Ordering.gt q refl
-
-  pub if_other : (a : Order) → a ≡ order_of (shifted w m) → (a ≡ Higher → ⊥) → true ≡ le (power (length w / m) (take m w)) w
-  if_other a e f = go (shifted w m) refl (λ q. f (e ∙ q))
-    where
-      go : (o : Ordering) → shifted w m ≡ o → (order_of o ≡ Higher → ⊥) → true ≡ le (power (length w / m) (take m w)) w
-      go Ordering.lt q e = answer true Ordering.lt q refl
-      go Ordering.eq q e = answer true Ordering.eq q refl
-      go Ordering.gt q e = absurd (e refl)
+pub shifted_at_most : (w : List ℕ) (m : ℕ) → 0 < length w → m * (length w / m) ≡ length w
+    → {a : Answer} → a ≡ order_of (shifted w m) → at_most a ≡ le (power (length w / m) (take m w)) w
+shifted_at_most w m p h e = ap at_most e ∙ at_most_told (shifted w m) ∙ sym (power_test w m p h)

@@ -1,5 +1,6 @@
 -- The first symbols of a row, whose power has its length. Not of document 01: what inner functions are given.
-use Rattle.std.specs.Prelude.{List, ◌≡◌, ℕ, ◌*◌, ◌/◌, ◌<◌, ◌≤◌, length}
+use Rattle.std.specs.Prelude.{List, Option, Some, None, ◌≡◌, ℕ, ◌*◌, ◌/◌, ◌<◌, ◌≤◌, length, take}
+use Rattle.counting.specs.InnerBound.{Bound, at, none}
 use Rattle.density.proofs.Binary.{Binary}
 use Rattle.pascal.specs.Pascal.{last_row}
 
@@ -10,3 +11,8 @@ pub record Part (w : List ℕ) (m e : ℕ) : Type 0 where
   pub binary : Binary w
   pub divides : m * (length w / m) ≡ length w
   pub dense : e ≤ m
+
+-- the row of n symbols in an array of the most stations, where there is one
+abbrev pub bound_in : ℕ → Option (List ℕ) → Bound
+bound_in n (Some row) = at (take n row)
+bound_in n None = none

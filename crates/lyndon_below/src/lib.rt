@@ -1,15 +1,18 @@
-// The Lyndon words whose power is at or below a row, for each divisor of its length, by the rows that have a rotation so.
+// The Lyndon words whose power is at or below a row, for each divisor of its length, by the rows that have a rotation
+// so.
 #![tactic(auto)]
 
 mod bound;
 mod rows;
+pub mod tables;
 
 ghost use Rattle.std.specs.Prelude.{◌≡◌, ℕ, pred, suc, ◌+◌, ◌*◌, ◌≤◌, ◌<◌, ◌^◌, length};
 ghost use Rattle.counting.specs.InnerRoots.{lyndon_below};
 ghost use Rattle.counting.specs.InnerSums.{total, upto};
 ghost use Rattle.lyndon_below.specs.InnerTables.{Given, Known, named, taken};
-ghost use Rattle.pascal.specs.Pascal.{last_row, triangle};
-ghost use Rattle.rows_above.specs.InnerTables.{table_size};
+ghost use Rattle.pascal.specs.Pascal.{last_row};
+
+use tables::Tables;
 
 // The lengths, 0 to 64.
 pub const LENGTHS: usize = 65;
@@ -35,11 +38,9 @@ fn shorter_sum(t: &[u64; LENGTHS], m: usize, e: usize) -> u64
     ensures { result ≡ total (taken t.now m e) (upto (pred m)) }
 {
     let mut sum: u64 = 0;
-    let mut i: usize = 0;
-    while i + 1 < m {
-        let x = entry(t, m, e, i + 1);
-        sum += (m / (i + 2)) as u64 * x;
-        i += 1;
+    for j in 1..m {
+        // `as`: no `From` makes a u64 of a usize
+        sum += (m / (j + 1)) as u64 * entry(t, m, e, j);
     }
     sum
 }
@@ -50,26 +51,16 @@ pub fn common_sum(t: &[u64; LENGTHS], n: usize, d: usize) -> u64
     ensures { result ≡ total (named t.now n d) (upto n) }
 {
     let mut sum: u64 = 0;
-    let mut i: usize = 0;
-    while i < n {
-        sum += entry(t, n, d, i);
-        i += 1;
+    for j in 0..n {
+        sum += entry(t, n, d, j);
     }
     sum
 }
 
 // The Lyndon words of m symbols, at the density that fits m as d fits w; 0 where none fits.
-fn count_of_length(
-    ways: &[u64; pascal::ENTRIES],
-    table: &mut [u64; rows_above::TABLE_SIZE],
-    t: &[u64; LENGTHS],
-    w: &[u8],
-    d: usize,
-    m: usize,
-) -> u64
-    requires { (ways.now ≡ triangle (suc last_row)) × (0 < m) × (m ≤ length w.now) × Given w.now d × Known t.now w.now d m × (length table.old ≡ table_size) }
-    ensures long { length table.new ≡ table_size }
-    ensures by_index { (k c : ℕ) → k * m ≡ length w.now → k * c ≡ d → result ≡ lyndon_below (length w.now) w.now m c }
+fn count_of_length(tables: &mut Tables<'_>, t: &[u64; LENGTHS], w: &[u8], d: usize, m: usize) -> u64
+    requires { (0 < m) × (m ≤ length w.now) × Given w.now d × Known t.now w.now d m }
+    ensures { (k c : ℕ) → k * m ≡ length w.now → k * c ≡ d → result ≡ lyndon_below (length w.now) w.now m c }
 {
     let n = w.len();
     if n % m != 0 {
@@ -80,28 +71,20 @@ fn count_of_length(
         return 0;
     }
     let e = d / k;
-    let rows = rows::count_below(ways, table, w, m, e);
+    let rows = rows::count_below(tables, w, m, e);
     let shorter = shorter_sum(t, m, e);
+    // `as`: no `From` makes a u64 of a usize
     (rows - shorter) / (m as u64)
 }
 
-// The table for all divisors, shorter ones first. The tables are lent: the ways to choose, and one in which what it holds does not matter.
-pub fn count_all(
-    ways: &[u64; pascal::ENTRIES],
-    table: &mut [u64; rows_above::TABLE_SIZE],
-    w: &[u8],
-    d: usize,
-) -> [u64; LENGTHS]
-    requires { (ways.now ≡ triangle (suc last_row)) × Given w.now d × (length table.old ≡ table_size) }
-    ensures long { length table.new ≡ table_size }
-    ensures known { Known result w.now d (length w.now + 1) }
+// The table for all divisors, shorter ones first.
+pub fn count_all(tables: &mut Tables<'_>, w: &[u8], d: usize) -> [u64; LENGTHS]
+    requires { Given w.now d }
+    ensures { Known result w.now d (length w.now + 1) }
 {
     let mut t = [0u64; LENGTHS];
-    let mut m: usize = 1;
-    while m <= w.len() {
-        let x = count_of_length(ways, table, &t, w, d, m);
-        t[m] = x;
-        m += 1;
+    for m in 1..w.len() + 1 {
+        t[m] = count_of_length(tables, &t, w, d, m);
     }
     t
 }

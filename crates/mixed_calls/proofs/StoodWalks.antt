@@ -1,5 +1,5 @@
 -- Whatever is called, the walk that stands and all walks put were brought about by steps from an opening.
-use mathlib.Core.Bool.{Bool, false, true, true≢false}
+use mathlib.Core.Bool.{Bool, false, true}
 use mathlib.Core.List.{List, [], ◌++◌, ◌∷◌}
 use mathlib.Core.Path.{ap, refl, subst, sym, ◌∙◌, ◌≡◌}
 use Prim.Native.Nat.{ℕ}
@@ -8,13 +8,15 @@ use borrow.Author.Tests.{eqb-false, eqb-true}
 use Rattle.binder.proofs.LastPut.{fresh_eight, fresh_under}
 use Rattle.binder.proofs.UnderName.{fetch_passes, put_passes, still_eight, under_other, under_same}
 use Rattle.binder.specs.Claims.{Eight}
-use Rattle.binder.specs.Names.{fetch_of, fetch_verdict, fetch_walk, filed, fresh_binder, put_binder, put_of, put_verdict, under}
+use Rattle.binder.specs.Names.{fetch_of, fetch_verdict, fetch_walk, fresh_binder, put_binder, put_of, put_verdict, under}
 use Rattle.binder.specs.declared.Binder.{Binder}
 use Rattle.density.specs.Density.{density}
 use Rattle.density.specs.Necklaces.{is_kind, is_necklace_of, of_kind}
 use Rattle.density.specs.Rows.{is_padded}
 use Rattle.offers.specs.Offers.{look_of, take_of, take_verdict, taken_by}
 use Rattle.offers.specs.declared.Offer.{Offer}
+use Rattle.std.specs.Prelude.{Some}
+use Rattle.words.proofs.Booleans.{clash}
 use Rattle.refusal.specs.Verdicts.{Verdict, accepted, are_stations, refused}
 use Rattle.walk.proofs.StepLists.{handed-append}
 use Rattle.walk.specs.Claims.{opened}
@@ -75,13 +77,10 @@ take_stood w o s = go (take_verdict w o)
 -- each walk put is one of them
 pub record Filled (b : Binder) : Type 0 where
   pub eight : Eight b
-  pub stood : (name : ℕ) → (under b name).put ≡ true → Stood (under b name).walk
+  pub stood : (name : ℕ) (v : Walk) → under b name ≡ Some v → Stood v
 
 pub fresh_filled : Filled fresh_binder
-fresh_filled = record {
-  eight = fresh_eight;
-  stood = λ name e. absurd (true≢false (sym e ∙ ap (λ k. k.put) (fresh_under name)));
-}
+fresh_filled = record { eight = fresh_eight; stood = λ name v e. let z = sym (fresh_under name) ∙ e in clash (cc) }
 
 pub put_filled : (b : Binder) (name : ℕ) (w : Walk) → Filled b → Stood w → Filled (put_of b name w)
 put_filled b name w f s = record {
@@ -89,27 +88,25 @@ put_filled b name w f s = record {
   stood = go (put_verdict name w) refl;
 }
   where
-    go : (v : Verdict) → put_verdict name w ≡ v → (other : ℕ) → let k = under (put_binder v b name w) other in
-        k.put ≡ true → Stood k.walk
-    go (refused r) e other p = f.stood other p
-    go accepted e other p = pick (eqb other name) refl p
+    go : (v : Verdict) → put_verdict name w ≡ v
+        → (other : ℕ) (x : Walk) → under (put_binder v b name w) other ≡ Some x → Stood x
+    go (refused r) e other x p = f.stood other x p
+    go accepted e other x p = pick (eqb other name) refl
       where
-        pick : (t : Bool) → eqb other name ≡ t → let k = under (put_binder accepted b name w) other in
-            k.put ≡ true → Stood k.walk
-        pick true h p =
-            let u : under (put_binder accepted b name w) other ≡ filed w =
+        pick : (t : Bool) → eqb other name ≡ t → Stood x
+        pick true h =
+            let u : under (put_binder accepted b name w) other ≡ Some w =
             ap (under (put_binder accepted b name w)) (eqb-true other name h)
             ∙ under_same b name w f.eight (put_passes name w e).0 in
-            subst (λ k. Stood k.walk) (sym u) s
-        pick false h p =
-            let u = under_other b name w accepted other (eqb-false other name h) in
-            subst (λ k. Stood k.walk) (sym u) (f.stood other (subst (λ k. k.put ≡ true) u p))
+            let i : w ≡ x = cc in
+            subst Stood i s
+        pick false h = f.stood other x (sym (under_other b name w accepted other (eqb-false other name h)) ∙ p)
 
 pub fetch_stood : (b : Binder) (name : ℕ) → Filled b → Stood (fetch_of b name)
 fetch_stood b name f = go (fetch_verdict b name) refl
   where
     go : (v : Verdict) → fetch_verdict b name ≡ v → Stood (fetch_walk v b name)
-    go accepted e = f.stood name (fetch_passes b name e)
+    go accepted e = f.stood name _ (fetch_passes b name e)
     go (refused r) e = refused_stood
 
 -- ---- calls

@@ -14,8 +14,8 @@ use Rattle.words.proofs.OrderTests.{cmp_ended, order_equal, order_higher, order_
 use Rattle.words.proofs.Rotations.{rotation-length}
 use Rattle.words.specs.Order.{cmp, head_first, order_of}
 use Rattle.words.specs.Rotation.{least_index, period, rotation}
-use Rattle.words.specs.declared.Order.{Order}
-use Rattle.words.specs.declared.Order.TheVariants.{Equal, Higher, Lower}
+use Rattle.std.specs.declared.cmp.Ordering.{Ordering as Answer}
+use Rattle.std.specs.declared.cmp.Ordering.TheVariants.{Equal, Greater, Less}
 
 -- the least rotation in front of j lies at b
 pub record Rotations (w : List ℕ) (b j : ℕ) : Type 0 where
@@ -64,7 +64,7 @@ module _ {w : List ℕ} {b j i from beside part : ℕ} (v : NextPart w b j i fro
   low = v.rotations.seen.least.inside
 
   -- r is what the comparison of `row[from..from + part]` with `row[beside..beside + part]` answers
-  module _ (r : Order) (e : r ≡ order_of (cmp (take (from + part - from) (drop from w)) (take (beside + part - beside) (drop beside w)))) where
+  module _ (r : Answer) (e : r ≡ order_of (cmp (take (from + part - from) (drop from w)) (take (beside + part - beside) (drop beside w)))) where
     answer : order_of (cmp (take part (drop i (rotation j w))) (take part (drop i (rotation b w)))) ≡ r
     answer =
         let one : from + part - from ≡ part = omega arith in
@@ -82,12 +82,12 @@ module _ {w : List ℕ} {b j i from beside part : ℕ} (v : NextPart w b j i fro
         → cmp (rotation j w) (rotation b w) ≡ head_first o (cmp (drop (i + part) (rotation j w)) (drop (i + part) (rotation b w)))
     decided o q = parts ∙ ap₂ head_first q (ap₂ cmp (drop-drop part i (rotation j w)) (drop-drop part i (rotation b w)))
 
-    pub by_higher : r ≡ Higher → Rotations w b (j + 1)
+    pub by_higher : r ≡ Greater → Rotations w b (j + 1)
     by_higher q =
         let h = cmp_gt (rotation j w) (rotation b w) (decided Ordering.gt (order_higher _ (answer ∙ q))) in
         record { inside = omega (arith, v.further); seen = seen_keep v.rotations.seen h }
 
-    pub by_lower : r ≡ Lower → Rotations w j (j + 1)
+    pub by_lower : r ≡ Less → Rotations w j (j + 1)
     by_lower q =
         let h = cmp-lt (rotation j w) (rotation b w) (decided Ordering.lt (order_lower _ (answer ∙ q))) in
         record { inside = omega (arith, v.further); seen = seen_take v.rotations.seen h }

@@ -2,11 +2,9 @@
 use Rattle.std.specs.Prelude.{List, ℕ, eqb, leb, length}
 use Rattle.words.specs.Rotation.{least_index, period}
 use Rattle.words.specs.Symbols.{first_wrong}
-use Rattle.refusal.specs.Outcomes.{Outcome, given, refused}
 use Rattle.refusal.specs.Verdicts.{Verdict, accepted, need, are_stations}
 use Rattle.refusal.specs.declared.Refusal.TheVariants.{Stations, Symbol, Buffer}
-use Rattle.necklace.specs.declared.KeyAnswer.{KeyAnswer}
-use Rattle.necklace.specs.declared.KeyAnswer.TheVariants.{Found, Refused}
+use Rattle.necklace.specs.declared.RowKey.{RowKey}
 
 -- "Orders. Key: 1, 3, 9.", for a row and the length of the lent buffer.
 unfoldable pub key_verdict : List ℕ → ℕ → Verdict
@@ -14,14 +12,5 @@ key_verdict row room =
     need (are_stations (length row)) Stations (need (eqb (first_wrong 2 row) 0) (Symbol (first_wrong 2 row)) (need (leb (length row) room) Buffer accepted))
 
 -- "the smallest j that gives it, and the period"
-pub record KeyValues : Type 0 where
-  pub rotation : ℕ
-  pub period : ℕ
-
-abbrev pub key_given : List ℕ → KeyValues
+abbrev pub key_given : List ℕ → RowKey
 key_given row = record { rotation = least_index row; period = period row }
-
--- document 01's number and values for each answer
-abbrev pub key_outcome : KeyAnswer → Outcome KeyValues
-key_outcome (Found j p) = given (record { rotation = j; period = p })
-key_outcome (Refused r) = refused r

@@ -3,28 +3,13 @@ ghost use Rattle.std.specs.Prelude.{◌≡◌, ◌<◌, ◌≤◌, length, get_o
 ghost use Rattle.words.specs.Buffers.{fronted};
 ghost use Rattle.words.specs.Rotation.{least_index, period, rotation};
 
-use words::Order;
-
-// The number of a row's least rotation, and the row's period.
-#[derive(Clone, Copy)]
-pub struct Least {
-    pub index: usize,
-    pub period: usize,
-}
-
-// The symbol at place i of the rotation by j.
-pub fn symbol(row: &[u8], j: usize, i: usize) -> u8
-    requires { (j ≤ length row.now) × (i < length row.now) }
-    ensures { result ≡ get_or (rotation j row.now) i 0 }
-{
-    let tail = row.len() - j;
-    if i < tail { row[j + i] } else { row[i - tail] }
-}
+use crate::RowKey;
+use std::cmp::Ordering;
 
 // The least rotation: the rotations in their order against the least so far, which lies at b.
-pub fn least_rotation(row: &[u8]) -> Least
+pub fn least_rotation(row: &[u8]) -> RowKey
     requires { 0 < length row.now }
-    ensures { (result.index ≡ least_index row.now) × (result.period ≡ period row.now) }
+    ensures { (result.rotation ≡ least_index row.now) × (result.period ≡ period row.now) }
 {
     let n = row.len();
     let mut b: usize = 0;
@@ -38,14 +23,14 @@ pub fn least_rotation(row: &[u8]) -> Least
             let compared = words::compare(&row[from..from + part], &row[beside..beside + part]);
             let order = compared.order;
             match order {
-                Order::Higher => {
+                Ordering::Greater => {
                     continue 'rotations;
                 }
-                Order::Lower => {
+                Ordering::Less => {
                     b = j;
                     continue 'rotations;
                 }
-                Order::Equal => {}
+                Ordering::Equal => {}
             }
             // its head, as far as the rotation by b goes on in the row without a break
             i += part;
@@ -54,27 +39,23 @@ pub fn least_rotation(row: &[u8]) -> Least
             part = if i < n - b { n - b - i } else { n - i };
         }
         // the least rotation again: from here on all of them are rotations seen before
-        return Least {
-            index: b,
+        return RowKey {
+            rotation: b,
             period: j - b,
         };
     }
-    Least {
-        index: b,
+    RowKey {
+        rotation: b,
         period: n,
     }
 }
 
-// Writes the rotation by j to the front of `out`.
+// Writes the rotation by j to the front of `out`: the tail of the row from place j on, then its head.
 pub fn write_rotation(row: &[u8], j: usize, out: &mut [u8])
     requires { (j ≤ length row.now) × (length row.now ≤ length out.old) }
     ensures { out.new ≡ fronted (rotation j row.now) out.old }
 {
-    let n = row.len();
-    let mut at: usize = 0;
-    while at < n {
-        let x = symbol(row, j, at);
-        out[at] = x;
-        at += 1;
-    }
+    let tail = row.len() - j;
+    words::inner::write_front(&row[j..], out);
+    words::inner::write_front(&row[..j], &mut out[tail..]);
 }

@@ -4,68 +4,61 @@
 ghost use Rattle.std.specs.Prelude.{◌≡◌, length};
 ghost use Rattle.words.specs.Rotation.{least_rotation};
 ghost use Rattle.refusal.specs.Outcomes.{decide, filled};
-ghost use Rattle.necklace.specs.Key.{key_given, key_outcome, key_verdict};
-ghost use Rattle.necklace.specs.Class.{class_given, class_outcome, class_verdict};
+ghost use Rattle.necklace.specs.Key.{key_given, key_verdict};
+ghost use Rattle.necklace.specs.Class.{class_given, class_verdict};
 
 use refusal::Refusal;
 
 pub mod inner;
 
+// The number of a row's least rotation, and the row's period.
 #[derive(Clone, Copy)]
-pub enum KeyAnswer {
-    // the number of the least rotation, and the period
-    Found { rotation: usize, period: usize },
-    Refused(Refusal),
+pub struct RowKey {
+    pub rotation: usize,
+    pub period: usize,
 }
 
+// Whether a row is a necklace, and whether it is a Lyndon word.
 #[derive(Clone, Copy)]
-pub enum ClassAnswer {
-    // whether the row is a necklace, and whether it is a Lyndon word
-    Of { necklace: bool, lyndon: bool },
-    Refused(Refusal),
+pub struct RowClass {
+    pub necklace: bool,
+    pub lyndon: bool,
 }
 
 // The key of a row: its least rotation, written to the front of `out`.
-pub fn key(row: &[u8], out: &mut [u8]) -> KeyAnswer
-    ensures answer { key_outcome result ≡ decide (key_verdict row.now (length out.old)) (key_given row.now) }
+pub fn key(row: &[u8], out: &mut [u8]) -> Result<RowKey, Refusal>
+    ensures answer { result ≡ decide (key_verdict row.now (length out.old)) (key_given row.now) }
     ensures buffer { out.new ≡ filled (key_verdict row.now (length out.old)) (least_rotation row.now) out.old }
 {
     let n = row.len();
     if !refusal::are_stations(n) {
-        return KeyAnswer::Refused(Refusal::Stations);
+        return Err(Refusal::Stations);
     }
-    let wrong = words::first_wrong(row, 2);
-    if wrong != 0 {
-        return KeyAnswer::Refused(Refusal::Symbol(wrong));
+    if let Some(place) = words::first_wrong(row, 2) {
+        return Err(Refusal::Symbol(place));
     }
     if out.len() < n {
-        return KeyAnswer::Refused(Refusal::Buffer);
+        return Err(Refusal::Buffer);
     }
-    let least = inner::least_rotation(row);
-    let index = least.index;
-    let period = least.period;
-    inner::write_rotation(row, index, out);
-    KeyAnswer::Found {
-        rotation: index,
-        period: period,
-    }
+    let found = inner::least_rotation(row);
+    inner::write_rotation(row, found.rotation, out);
+    Ok(found)
 }
 
 // The class of a row: whether it is a necklace, and whether it is a Lyndon word.
-pub fn class(row: &[u8]) -> ClassAnswer
-    ensures { class_outcome result ≡ decide (class_verdict row.now) (class_given row.now) }
+pub fn class(row: &[u8]) -> Result<RowClass, Refusal>
+    ensures { result ≡ decide (class_verdict row.now) (class_given row.now) }
 {
-    let n = row.len();
-    if !refusal::are_stations(n) {
-        return ClassAnswer::Refused(Refusal::Stations);
+    let stations = row.len();
+    if !refusal::are_stations(stations) {
+        return Err(Refusal::Stations);
     }
-    let wrong = words::first_wrong(row, 2);
-    if wrong != 0 {
-        return ClassAnswer::Refused(Refusal::Symbol(wrong));
+    if let Some(place) = words::first_wrong(row, 2) {
+        return Err(Refusal::Symbol(place));
     }
     let p = words::inner::necklace_period(row);
-    ClassAnswer::Of {
+    Ok(RowClass {
         necklace: p != 0,
-        lyndon: p == n,
-    }
+        lyndon: p == stations,
+    })
 }

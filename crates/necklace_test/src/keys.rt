@@ -1,14 +1,16 @@
-// Key and class of single rows: specimens, and the refusals in their order. A case is the line that is printed, up to the answer.
-use necklace::{ClassAnswer, KeyAnswer};
+// Key and class of single rows: specimens, and the refusals in their order. A case is the line that is printed, up to
+// the answer.
+use necklace::RowKey;
+use refusal::Refusal;
 use test_rows::{FRESH, cases};
 
-fn print_key(answer: KeyAnswer, n: usize, out: &[u8; 80]) {
+fn print_key(answer: Result<RowKey, Refusal>, n: usize, out: &[u8; 80]) {
     match answer {
-        KeyAnswer::Found { rotation, period } => {
+        Ok(key) => {
             test_rows::print_row(n, out);
-            test_rows::print_filled(b" turn # period #", &[rotation, period]);
+            test_rows::print_filled(b" turn # period #", &[key.rotation, key.period]);
         }
-        KeyAnswer::Refused(r) => test_rows::print_refusal(r),
+        Err(r) => test_rows::print_refusal(r),
     }
     test_rows::print_as_before(test_rows::count_fresh(out));
 }
@@ -28,13 +30,13 @@ fn show_class(line: &[u8]) {
     let digits = cases::word(line, 4);
     let row = cases::symbols(digits);
     match necklace::class(cases::part(&row, 0, digits.len())) {
-        ClassAnswer::Of { necklace, lyndon } => {
+        Ok(class) => {
             io::write_all(1, b"shelved ");
-            test_rows::print_truth(necklace);
+            test_rows::print_truth(class.necklace);
             io::write_all(1, b" without symmetry ");
-            test_rows::print_truth(lyndon);
+            test_rows::print_truth(class.lyndon);
         }
-        ClassAnswer::Refused(r) => test_rows::print_refusal(r),
+        Err(r) => test_rows::print_refusal(r),
     }
     io::write_all(1, b"\n");
 }
@@ -48,17 +50,8 @@ fn show(line: &[u8]) {
     show_class(line);
 }
 
-fn show_lines(text: &[u8]) {
-    let lines = test_rows::count(text, b'\n');
-    let mut i: usize = 0;
-    while i < lines {
-        show(cases::piece(text, b'\n', i));
-        i += 1;
-    }
-}
-
 pub fn show_all() {
-    show_lines(
+    cases::each(
         b"key of 6 stations 011000 buffer 80\n\
           key of 6 stations 101010 buffer 80\n\
           key of 1 stations 0 buffer 80\n\
@@ -87,5 +80,7 @@ pub fn show_all() {
           class of 65 stations 00000000000000000000000000000000000000000000000000000000000000002\n\
           class of 4 stations 0120\n\
           class of 1 stations 3\n",
+        b'\n',
+        show,
     );
 }

@@ -31,26 +31,17 @@ fn walk_drawer(n: usize, d: usize, way: u8, most: u64)
     let mut walk = opened.walk;
     let mut trials: u64 = 0;
     let mut places: usize = 0;
-    let mut steps: u64 = 0;
-    while steps < most {
+    for _ in 0..most {
         let stepped = next(walk, way);
         walk = stepped.walk;
-        trials = std::num::wrapping_add_u64(trials, stepped.trials);
-        places = std::num::wrapping_add_usize(places, stepped.place);
-        steps += 1;
+        trials = trials.wrapping_add(stepped.trials);
+        places = places.wrapping_add(stepped.place);
     }
     io::print_decimal(1, trials);
     io::write_all(1, b" trials ");
+    // by `as`: no From leads from a usize to a u64
     io::print_decimal(1, places as u64);
     io::write_all(1, b" places\n");
-}
-
-fn wide(x: u8) -> usize {
-    x as usize
-}
-
-fn hundreds(x: u8) -> u64 {
-    x as u64 * 100
 }
 
 fn main() {
@@ -58,8 +49,13 @@ fn main() {
     if io::read_full(0, &mut asked) < 4 {
         return;
     }
-    let n = wide(asked[0]);
-    if n <= refusal::MOST_STATIONS {
-        walk_drawer(n, wide(asked[1]), asked[2], hundreds(asked[3]));
+    let [n, d, way, hundreds] = asked;
+    if usize::from(n) <= refusal::MOST_STATIONS {
+        walk_drawer(
+            usize::from(n),
+            usize::from(d),
+            way,
+            u64::from(hundreds) * 100,
+        );
     }
 }

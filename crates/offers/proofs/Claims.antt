@@ -14,32 +14,33 @@ use Rattle.walk.specs.Step.{step_of}
 use Rattle.walk.specs.declared.Standing.{Standing}
 use Rattle.walk.specs.declared.Standing.TheVariants.{Ended}
 use Rattle.walk.specs.declared.Walk.{Walk}
+use Rattle.std.specs.Result.{is_ok}
 use Rattle.words.proofs.Booleans.{and→, →and}
 use Rattle.offers.proofs.Looking.{answer_number, look_offers, number_answer, refused_offer_lem}
 use Rattle.offers.proofs.SameOffers.{same_offer_lem}
 use Rattle.offers.proofs.TakeCases.{answered-take, ended→}
 use Rattle.offers.specs.Claims.{AcceptedTake, Answers, LookThenTake, OfferMade, Offers, RefusedNotTaken, RefusedTake, TakeRefusals, TakesExactly}
-use Rattle.offers.specs.Offers.{has_ended, is_answer, look_of, offers_so, refused_offer, same_offer, take_of, take_verdict, taken_by}
+use Rattle.offers.specs.Offers.{has_ended, look_of, offers_so, refused_offer, same_offer, take_of, take_verdict, taken_by}
 use Rattle.offers.specs.declared.Offer.{Offer}
 
 -- ---- whether a look gives that same offer
 
-is_answer_lem : (w : Walk) (a : ℕ) → Answers w a → is_answer (step_of rules w a).answer ≡ true
-is_answer_lem w a n = let s = step_of rules w a in number_answer s.answer s.walk s.place s.trials n
+is_ok_lem : (w : Walk) (a : ℕ) → Answers w a → is_ok (step_of rules w a).answer ≡ true
+is_ok_lem w a n = let s = step_of rules w a in number_answer s.answer s.walk s.place s.trials n
 
-answers : (w : Walk) (a : ℕ) → is_answer (step_of rules w a).answer ≡ true → Answers w a
+answers : (w : Walk) (a : ℕ) → is_ok (step_of rules w a).answer ≡ true → Answers w a
 answers w a t = let s = step_of rules w a in answer_number s.answer s.walk s.place s.trials t
 
 offers_so→ : (w : Walk) (o : Offer) → offers_so w o ≡ true → Offers w o.allowance o
 unfolding offers_so look_of
 offers_so→ w o e =
     let l = look_of w o.allowance in
-    let h = and→ (is_answer l.answer) (same_offer l.offer o) e in
+    let h = and→ (is_ok l.answer) (same_offer l.offer o) e in
     (answers w o.allowance h.0, (same_offer_lem l.offer o).0 h.1)
 
 →offers_so : (w : Walk) (o : Offer) → Offers w o.allowance o → offers_so w o ≡ true
 unfolding offers_so look_of
-→offers_so w o h = →and (is_answer_lem w o.allowance h.0) ((same_offer_lem (look_of w o.allowance).offer o).1 h.1)
+→offers_so w o h = →and (is_ok_lem w o.allowance h.0) ((same_offer_lem (look_of w o.allowance).offer o).1 h.1)
 
 -- what a verdict that accepts has passed
 accepted→ : (w : Walk) (o : Offer) → take_verdict w o ≡ accepted → Offers w o.allowance o
@@ -55,7 +56,7 @@ takes_exactly w o long = (accepted→ w o, there)
   where
     there : Offers w o.allowance o → take_verdict w o ≡ accepted
     there h =
-        answered-take w o long (is_answer_lem w o.allowance h.0)
+        answered-take w o long (is_ok_lem w o.allowance h.0)
         ∙ ap (λ b. need b NotOffered accepted) ((same_offer_lem (look_of w o.allowance).offer o).1 h.1)
 
 -- ---- 22, 20, 24

@@ -9,19 +9,19 @@ use Rattle.words.proofs.Booleans.{and→, →and}
 use Rattle.offers.specs.Claims.{SameOffer}
 use Rattle.offers.specs.Offers.{offered_number, same_offer}
 use Rattle.offers.specs.declared.Offer.{Offer}
-use Rattle.offers.specs.declared.Offered.{Offered}
-use Rattle.offers.specs.declared.Offered.TheVariants.{None, Ring}
+use Rattle.walk.specs.declared.Answer.{Answer}
+use Rattle.walk.specs.declared.Answer.TheVariants.{None, Ring}
 
 -- what is offered, by its number
-abbrev offered : ℕ → Offered
+abbrev offered : ℕ → Answer
 offered zero = Ring
 offered (suc k) = None
 
-offered_back : (a : Offered) → offered (offered_number a) ≡ a
+offered_back : (a : Answer) → offered (offered_number a) ≡ a
 offered_back Ring = refl
 offered_back None = refl
 
-offered_same : (a b : Offered) → eqb (offered_number a) (offered_number b) ≡ true → a ≡ b
+offered_same : (a b : Answer) → eqb (offered_number a) (offered_number b) ≡ true → a ≡ b
 offered_same a b e = sym (offered_back a) ∙ ap offered (eqb-true (offered_number a) (offered_number b) e) ∙ offered_back b
 
 pub same_offer_lem : SameOffer

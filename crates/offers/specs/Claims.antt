@@ -1,5 +1,5 @@
 -- What document 02 claims of looks and takes, each claim as a statement of its own.
-use Rattle.std.specs.Prelude.{false, true, ◌↔◌, ◌≡◌, ℕ}
+use Rattle.std.specs.Prelude.{false, true, ◌↔◌, ◌≡◌, ℕ, Err}
 use Rattle.refusal.specs.Conditions.{Conditions, FirstOf, no_more, when}
 use Rattle.refusal.specs.Verdicts.{accepted, refused}
 use Rattle.refusal.specs.declared.Refusal.{Refusal}
@@ -8,13 +8,12 @@ use Rattle.walk.specs.Claims.{Record, RefusedWalk}
 use Rattle.walk.specs.Fit.{fit}
 use Rattle.walk.specs.Moves.{rules}
 use Rattle.walk.specs.Step.{step_due, step_of}
-use Rattle.walk.specs.declared.Answer.TheVariants.{Refused}
+use Rattle.walk.specs.declared.Answer.TheVariants.{None}
 use Rattle.walk.specs.declared.Standing.TheVariants.{Ended}
 use Rattle.walk.specs.declared.Stepped.{Stepped}
 use Rattle.walk.specs.declared.Walk.{Walk}
 use Rattle.offers.specs.Offers.{look_numbers, look_of, offered_row, same_offer, take_of, take_verdict}
 use Rattle.offers.specs.declared.Offer.{Offer}
-use Rattle.offers.specs.declared.Offered.TheVariants as offers
 
 -- ---- looking, at any walk record
 
@@ -37,7 +36,7 @@ LookOffers = (w : Walk) (a : ℕ) → Answers w a → OfferMade w a (look_of w a
 
 -- "none, allowance 0 and the walk of a refused opening"
 pub record NoOffer (o : Offer) : Type 0 where
-  pub none : o.offered ≡ offers.None
+  pub none : o.offered ≡ None
   pub allowance : o.allowance ≡ 0
   pub walk : RefusedWalk o.walk
 
@@ -73,7 +72,7 @@ TakeRefusals = (w : Walk) (o : Offer) → FirstOf (take_conditions w o) (take_ve
 -- "Otherwise it comes back as handed in": no ring, place or trial is told beside the refusal.
 pub record Kept (w : Walk) (r : Refusal) (s : Stepped) : Type 0 where
   pub walk : s.walk ≡ w
-  pub answer : s.answer ≡ Refused r
+  pub answer : s.answer ≡ Err r
   pub place : s.place ≡ 0
   pub trials : s.trials ≡ 0
 

@@ -1,4 +1,3 @@
 -- Offers, looked at and taken, and what is claimed of them.
 pub mod Offers
-pub mod InnerTaking
 pub mod Claims

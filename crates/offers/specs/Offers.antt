@@ -1,5 +1,6 @@
 -- "Look, then take": what a look and a take give, of any walk record and any offer.
-use Rattle.std.specs.Prelude.{Bool, false, not, true, ◌&&◌, List, [], ℕ, eqb}
+use Rattle.std.specs.Prelude.{Bool, false, not, true, ◌&&◌, List, [], ℕ, eqb, Result, Ok, Err}
+use Rattle.std.specs.Result.{is_ok}
 use Rattle.refusal.specs.Verdicts.{Verdict, accepted, need, refused}
 use Rattle.refusal.specs.declared.Refusal.{Refusal}
 use Rattle.refusal.specs.declared.Refusal.TheVariants.{Ended as HasEnded, NotOffered, Unfit}
@@ -8,7 +9,7 @@ use Rattle.walk.specs.Moves.{row_of, rules}
 use Rattle.walk.specs.Opening.{refused_walk}
 use Rattle.walk.specs.Step.{StepNumbers, answer_numbers, step_numbers, step_of}
 use Rattle.walk.specs.declared.Answer.{Answer}
-use Rattle.walk.specs.declared.Answer.TheVariants.{None, Refused, Ring}
+use Rattle.walk.specs.declared.Answer.TheVariants.{None, Ring}
 use Rattle.walk.specs.declared.Standing.{Standing}
 use Rattle.walk.specs.declared.Standing.TheVariants.{Down, Ended, Given, Limit, Up}
 use Rattle.walk.specs.declared.Stepped.{Stepped}
@@ -16,21 +17,18 @@ use Rattle.walk.specs.declared.Walk.{Walk}
 use Rattle.walk_records.specs.SameWalks.{same_walk}
 use Rattle.offers.specs.declared.Looked.{Looked}
 use Rattle.offers.specs.declared.Offer.{Offer}
-use Rattle.offers.specs.declared.Offered.{Offered}
-use Rattle.offers.specs.declared.Offered.TheVariants as offers
 
 -- ---- looking
 
 -- "A refused look's offer is none, allowance 0 and the walk of a refused opening."
 abbrev pub refused_offer : Offer
-refused_offer = record { offered = offers.None; allowance = 0; walk = refused_walk rules }
+refused_offer = record { offered = None; allowance = 0; walk = refused_walk rules }
 
 -- "An offer with the ring or none, the allowance and the walk as it would be": of a step's answer, and the walk that it
 -- hands back
-abbrev pub offer_of : Answer → ℕ → Walk → Offer
-offer_of Ring a v = record { offered = offers.Ring; allowance = a; walk = v }
-offer_of None a v = record { offered = offers.None; allowance = a; walk = v }
-offer_of (Refused r) a v = refused_offer
+abbrev pub offer_of : Result Answer Refusal → ℕ → Walk → Offer
+offer_of (Ok x) a v = record { offered = x; allowance = a; walk = v }
+offer_of (Err r) a v = refused_offer
 
 -- what a look at w hands back, of a step with allowance a
 abbrev pub looked_at : Walk → ℕ → Stepped → Looked
@@ -47,16 +45,16 @@ abbrev pub look_numbers : Looked → StepNumbers
 look_numbers l = answer_numbers l.answer l.offer.walk l.place l.trials
 
 -- "the ring or none": the ring's row, empty for none
-abbrev pub offered_row : Offered → Walk → List ℕ
-offered_row offers.Ring w = row_of w
-offered_row offers.None w = []
+abbrev pub offered_row : Answer → Walk → List ℕ
+offered_row Ring w = row_of w
+offered_row None w = []
 
 -- ---- that same offer
 
 -- a ring or none, as a number
-abbrev pub offered_number : Offered → ℕ
-offered_number offers.Ring = 0
-offered_number offers.None = 1
+abbrev pub offered_number : Answer → ℕ
+offered_number Ring = 0
+offered_number None = 1
 
 -- every field and byte. `SameOffer` (Claims) says that it is equality.
 unfoldable pub same_offer : Offer → Offer → Bool
@@ -66,16 +64,10 @@ same_offer a b =
 
 -- ---- taking
 
--- a ring, or none
-abbrev pub is_answer : Answer → Bool
-is_answer Ring = true
-is_answer None = true
-is_answer (Refused r) = false
-
 -- "A look with that allowance on the walk now handed in would give that same offer"; "on a walk whose look is refused,
 -- no offer is accepted"
 unfoldable pub offers_so : Walk → Offer → Bool
-offers_so w o = let l = look_of w o.allowance in is_answer l.answer && same_offer l.offer o
+offers_so w o = let l = look_of w o.allowance in is_ok l.answer && same_offer l.offer o
 
 abbrev pub has_ended : Standing → Bool
 has_ended Limit = false
@@ -91,7 +83,7 @@ take_verdict w o =
 
 -- "Otherwise it comes back as handed in", with a refusal and no number beside it
 abbrev pub unmoved : Walk → Refusal → Stepped
-unmoved w r = record { walk = w; answer = Refused r; place = 0; trials = 0 }
+unmoved w r = record { walk = w; answer = Err r; place = 0; trials = 0 }
 
 -- "Then the walk moves": "an accepted take is a step with the offer's allowance on the walk handed in".
 abbrev pub taken_by : Verdict → Walk → Offer → Stepped

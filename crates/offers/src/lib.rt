@@ -4,24 +4,16 @@
 ghost use Rattle.std.specs.Prelude.{◌≡◌};
 ghost use Rattle.walk.specs.Moves.{rules};
 ghost use Rattle.walk.specs.Step.{step_due, step_numbers};
-ghost use Rattle.offers.specs.Offers.{look_numbers, look_of, offered_number, refused_offer, take_due, take_of, unmoved};
-ghost use Rattle.offers.specs.InnerTaking.{moved_if, offers_that, refused_by};
+ghost use Rattle.offers.specs.Offers.{look_numbers, look_of, refused_offer, take_due, take_of, unmoved};
 
 use refusal::Refusal;
 use walk::{Answer, Stepped, Walk};
 
-// What is offered: a ring, which is the row of the offer's walk, or none.
-#[derive(Clone, Copy)]
-pub enum Offered {
-    Ring,
-    None,
-}
-
-// An offer: what a look gave, the allowance that it had, and the walk as it would be. Any record may be handed in as
-// one.
-#[derive(Clone, Copy)]
+// An offer: what a look gave, the allowance that it had, and the walk as it would be. A ring is that walk's row. Any
+// record may be handed in as one.
+#[derive(Clone, Copy, PartialEq, Eq)]
 pub struct Offer {
-    pub offered: Offered,
+    pub offered: Answer,
     pub allowance: u64,
     pub walk: Walk,
 }
@@ -30,7 +22,7 @@ pub struct Offer {
 #[derive(Clone, Copy)]
 pub struct Looked {
     pub walk: Walk,
-    pub answer: Answer,
+    pub answer: Result<Answer, Refusal>,
     pub place: usize,
     pub trials: u64,
     pub offer: Offer,
@@ -42,7 +34,7 @@ impl Offer {
         ensures { result ≡ refused_offer }
     {
         Offer {
-            offered: Offered::None,
+            offered: Answer::None,
             allowance: 0,
             walk: Walk::refused(),
         }
@@ -55,50 +47,20 @@ pub fn look(walk: Walk, allowance: u64) -> Looked
     ensures numbers { look_numbers result ≡ step_due rules walk allowance }
 {
     let stepped = walk.step(allowance);
-    let answer = stepped.answer;
-    let next = stepped.walk;
-    let place = stepped.place;
-    let trials = stepped.trials;
-    match answer {
-        Answer::Ring => Looked {
-            walk,
-            answer: Answer::Ring,
-            place,
-            trials,
-            offer: Offer {
-                offered: Offered::Ring,
-                allowance,
-                walk: next,
-            },
+    let offer = match stepped.answer {
+        Ok(offered) => Offer {
+            offered,
+            allowance,
+            walk: stepped.walk,
         },
-        Answer::None => Looked {
-            walk,
-            answer: Answer::None,
-            place,
-            trials,
-            offer: Offer {
-                offered: Offered::None,
-                allowance,
-                walk: next,
-            },
-        },
-        Answer::Refused(r) => Looked {
-            walk,
-            answer: Answer::Refused(r),
-            place,
-            trials,
-            offer: Offer::refused(),
-        },
-    }
-}
-
-// A ring 0, none 1.
-fn offered_number(offered: Offered) -> u8
-    ensures { result ≡ offered_number offered }
-{
-    match offered {
-        Offered::Ring => 0,
-        Offered::None => 1,
+        Err(_) => Offer::refused(),
+    };
+    Looked {
+        walk,
+        answer: stepped.answer,
+        place: stepped.place,
+        trials: stepped.trials,
+        offer,
     }
 }
 
@@ -108,37 +70,10 @@ fn refusing(walk: Walk, r: Refusal) -> Stepped
 {
     Stepped {
         walk,
-        answer: Answer::Refused(r),
+        answer: Err(r),
         place: 0,
         trials: 0,
     }
-}
-
-// What a take is refused with where the step is: 24 where it is spent, else as the step.
-fn refused_by(r: Refusal) -> Refusal
-    ensures { result ≡ refused_by r }
-{
-    if refusal::number(r) == 21 {
-        return Refusal::NotOffered;
-    }
-    r
-}
-
-// A take where the step gives a ring, 0, or none, 1: the walk moves by it if that was offered, with the walk that it
-// hands back.
-fn taking(walk: Walk, stepped: Stepped, given: u8, offer: Offer) -> Stepped
-    ensures { result ≡ moved_if (offers_that given stepped.walk offer) walk stepped }
-{
-    let offered = offer.offered;
-    if offered_number(offered) != given {
-        return refusing(walk, Refusal::NotOffered);
-    }
-    let next = stepped.walk;
-    let offered_walk = offer.walk;
-    if !walk_records::same_walk(next, offered_walk) {
-        return refusing(walk, Refusal::NotOffered);
-    }
-    stepped
 }
 
 // Takes an offer, if a look at this walk with its allowance gives that same offer: the walk moves by that step.
@@ -146,12 +81,18 @@ pub fn take(walk: Walk, offer: Offer) -> Stepped
     ensures answer { result ≡ take_of walk offer }
     ensures numbers { step_numbers result ≡ take_due walk offer }
 {
-    let allowance = offer.allowance;
-    let stepped = walk.step(allowance);
-    let answer = stepped.answer;
-    match answer {
-        Answer::Ring => taking(walk, stepped, 0, offer),
-        Answer::None => taking(walk, stepped, 1, offer),
-        Answer::Refused(r) => refusing(walk, refused_by(r)),
+    let stepped = walk.step(offer.allowance);
+    match stepped.answer {
+        Ok(given) => {
+            if offer.offered == given && offer.walk == stepped.walk {
+                return stepped;
+            }
+            refusing(walk, Refusal::NotOffered)
+        }
+        Err(r) => match r {
+            // such a look is spent, and offers nothing; in a match of its own, which tells of the others that they are not Spent
+            Refusal::Spent => refusing(walk, Refusal::NotOffered),
+            _ => refusing(walk, r),
+        },
     }
 }

@@ -1,8 +1,7 @@
 // Single looks and takes, printed.
 use offers::Offer;
-use test_calls::Told;
 use test_rows::cases;
-use walk::{Standing, Walk};
+use walk::{Standing, Stepped, Walk};
 
 // The walk that stands, and the offer held.
 #[derive(Clone, Copy)]
@@ -11,73 +10,64 @@ struct Held {
     offer: Offer,
 }
 
-fn print_row(w: Walk) {
-    let row = w.row;
-    io::write_all(1, b" row ");
-    test_rows::print_row(w.n, &row);
-}
-
-fn print_told(before: Walk, told: Told) {
-    let after = told.walk;
-    test_walks::print_said(told.said);
+fn print_told(before: Walk, told: Stepped) {
+    test_walks::print_said(told.answer);
     test_rows::print_filled(b" place # trials #", &[told.place, told.trials as usize]);
-    print_row(after);
+    test_walks::print_row(told.walk);
     io::write_all(1, b" unchanged ");
-    test_rows::print_truth(test_calls::same_walk(before, after));
+    test_rows::print_truth(test_calls::same_walk(before, told.walk));
 }
 
 fn print_offer(offer: Offer) {
-    let offered = offer.offered;
     let walk = offer.walk;
-    let at = walk.at;
     io::write_all(1, b" offers");
-    test_walks::print_said(test_calls::offered_number(offered));
+    test_walks::print_said(Ok(offer.offered));
     test_rows::print_filled(
         b" allowance # (#,#) kind # standing #",
         &[
             offer.allowance as usize,
             walk.n,
             walk.d,
-            test_rows::wide(walk.kind),
-            test_rows::wide(walk_records::standing_number(at)),
+            usize::from(walk.kind),
+            usize::from(walk_records::standing_number(walk.at)),
         ],
     );
-    print_row(walk);
+    test_walks::print_row(walk);
 }
 
 // Stations, holes, kind and limit.
 fn opened(line: &[u8]) -> Walk {
-    let n = cases::number(line, 1);
-    let d = cases::number(line, 2);
-    let kind = cases::number_to(line, 3, 255) as u8;
     let digits = cases::word(line, 4);
     let row = cases::symbols(digits);
-    let opening = Walk::open(n, d, kind, cases::part(&row, 0, digits.len()));
-    opening.walk
+    test_walks::open(cases::drawer(line, 1), cases::part(&row, 0, digits.len())).walk
 }
 
 fn show_step(held: Held, allowance: u64) -> Held {
-    let told = test_calls::step(held.walk, allowance);
-    let walk = told.walk;
+    let told = held.walk.step(allowance);
     print_told(held.walk, told);
-    Held { walk, ..held }
+    Held {
+        walk: told.walk,
+        ..held
+    }
 }
 
 fn show_look(held: Held, allowance: u64) -> Held {
-    let seen = test_calls::look(held.walk, allowance);
-    let told = seen.told;
-    let walk = told.walk;
-    let offer = seen.offer;
-    print_told(held.walk, told);
-    print_offer(offer);
-    Held { walk, offer }
+    let looked = offers::look(held.walk, allowance);
+    print_told(held.walk, test_calls::told(looked));
+    print_offer(looked.offer);
+    Held {
+        walk: looked.walk,
+        offer: looked.offer,
+    }
 }
 
 fn show_take(held: Held) -> Held {
-    let told = test_calls::take(held.walk, held.offer);
-    let walk = told.walk;
+    let told = offers::take(held.walk, held.offer);
     print_told(held.walk, told);
-    Held { walk, ..held }
+    Held {
+        walk: told.walk,
+        ..held
+    }
 }
 
 fn unfit(walk: Walk) -> Walk {
@@ -110,19 +100,15 @@ fn show_call(held: Held, line: &[u8]) -> Held {
 }
 
 fn show_calls(text: &[u8]) {
-    let calls = test_rows::count(text, b'\n');
     let mut held = Held {
         walk: Walk::refused(),
         offer: Offer::refused(),
     };
-    let mut i: usize = 0;
-    while i < calls {
-        let call = cases::piece(text, b'\n', i);
+    cases::each(text, b'\n', |call| {
         io::write_all(1, call);
         held = show_call(held, call);
         io::write_all(1, b"\n");
-        i += 1;
-    }
+    });
 }
 
 pub fn show_single() {

@@ -1,7 +1,6 @@
--- The look-up: its index is within the table, and what it finds there are the ways to choose.
+-- The look-up: what it finds in the table are the ways to choose.
 use mathlib.Core.Path.{◌≡◌}
-use Prim.Native.Nat.{suc, ℕ, ◌*◌, ◌+◌, ◌≤◌}
-use native.Mathlib.Nat.{mul-le-mul}
+use Prim.Native.Nat.{suc, ℕ, ◌≤◌}
 use native.Mathlib.Omega.{arith}
 use lib.Dec.{leb}
 use borrow.Author.Tests.{le-leb, leb-true}
@@ -13,10 +12,6 @@ use Rattle.refusal.proofs.Conditions.{need→}
 use Rattle.refusal.proofs.Outcomes.{decide_on}
 use Rattle.refusal.specs.Outcomes.{decide}
 use Rattle.refusal.specs.Verdicts.{accepted}
-
--- where the last row begins, twice
-pub twice_start : (top : ℕ) → top ≤ last_row → top * (top + 1) ≤ last_row * suc last_row
-twice_start top h = mul-le-mul {m₁ = top + 1} {m₂ = suc last_row} h (omega arith)
 
 inside : (top bottom : ℕ) → ways_verdict top bottom ≡ accepted → entry_of (triangle (suc last_row)) top bottom ≡ choose top bottom
 unfolding ways_verdict

@@ -16,8 +16,8 @@ TableRule =
     (m n d : ℕ) → n < m → let entry = entry_of (triangle m) in
     (entry n 0 ≡ 1) × (entry n n ≡ 1) × (suc n < m → d < n → entry (suc n) (suc d) ≡ entry n d + entry n (suc d))
 
--- Whatever table is looked up, the rows stand one behind the other, row n of n + 1 numbers: before the row of a top stand
--- top * (top + 1) / 2 numbers.
+-- Whatever table is looked up, the rows stand one behind the other, row n of n + 1 numbers: before the row of a top
+-- stand top * (top + 1) / 2 numbers.
 abbrev pub RowsInOrder : Type 0
 RowsInOrder =
     (before row behind : List ℕ) (top bottom : ℕ) → length before * 2 ≡ top * (top + 1) → bottom < length row

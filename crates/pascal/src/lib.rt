@@ -6,7 +6,7 @@ mod numbers;
 ghost use Rattle.std.specs.Prelude.{◌≡◌, suc};
 ghost use Rattle.density.specs.Choose.{choose};
 ghost use Rattle.refusal.specs.Outcomes.{decide};
-ghost use Rattle.pascal.specs.Answers.{ways_outcome, ways_verdict};
+ghost use Rattle.pascal.specs.Answers.{ways_verdict};
 ghost use Rattle.pascal.specs.Pascal.{entry_of, last_row, triangle};
 
 use refusal::Refusal;
@@ -17,13 +17,6 @@ pub const LAST_ROW: usize = 64;
 // How many numbers the rows 0 to 64 have.
 pub const ENTRIES: usize = 2145;
 
-// How many ways there are.
-#[derive(Clone, Copy)]
-pub enum Answer {
-    Ways(u64),
-    Refused(Refusal),
-}
-
 // The whole table. It is copied, so a caller that reads many entries keeps it and lends it.
 pub fn triangle() -> [u64; ENTRIES]
     ensures { result ≡ triangle (suc last_row) }
@@ -32,21 +25,21 @@ pub fn triangle() -> [u64; ENTRIES]
 }
 
 // The entry for (top, bottom) of a table that is lent; of the triangle, the ways to choose.
-pub fn ways_in(table: &[u64; ENTRIES], top: usize, bottom: usize) -> Answer
-    ensures { ways_outcome result ≡ decide (ways_verdict top bottom) (entry_of table.now top bottom) }
+pub fn ways_in(table: &[u64; ENTRIES], top: usize, bottom: usize) -> Result<u64, Refusal>
+    ensures { result ≡ decide (ways_verdict top bottom) (entry_of table.now top bottom) }
 {
     if LAST_ROW < top {
-        return Answer::Refused(Refusal::Stations);
+        return Err(Refusal::Stations);
     }
     if top < bottom {
-        return Answer::Refused(Refusal::Holes);
+        return Err(Refusal::Holes);
     }
-    Answer::Ways(table[top * (top + 1) / 2 + bottom])
+    Ok(table[top * (top + 1) / 2 + bottom])
 }
 
 // The ways to choose bottom stations of top: a single look-up.
-pub fn ways(top: usize, bottom: usize) -> Answer
-    ensures { ways_outcome result ≡ decide (ways_verdict top bottom) (choose top bottom) }
+pub fn ways(top: usize, bottom: usize) -> Result<u64, Refusal>
+    ensures { result ≡ decide (ways_verdict top bottom) (choose top bottom) }
 {
     let table = triangle();
     ways_in(&table, top, bottom)

@@ -1,6 +1,6 @@
 // Look-ups of all small numbers and some large ones, against plain sums.
 use crate::plain;
-use pascal::Answer;
+use refusal::Refusal;
 
 // How many numbers there are: 0 to 67, and some that are larger.
 const NUMBERS: usize = 73;
@@ -11,18 +11,16 @@ fn number(i: usize) -> usize {
         69 => 256,
         70 => 4294967296,
         71 => 9223372036854775808,
-        72 => test_rows::MOST,
+        72 => usize::MAX,
         _ => i,
     }
 }
 
 // Whether a refusal is the one due, with place 0, or else the plain entry was given.
-fn is_due(answer: Answer, due: usize, entry: usize) -> bool {
+fn is_due(answer: Result<u64, Refusal>, due: usize, entry: usize) -> bool {
     match answer {
-        Answer::Ways(x) => due == 0 && x == entry as u64,
-        Answer::Refused(r) => {
-            test_rows::wide(refusal::number(r)) == due && refusal::place(r) == 0
-        }
+        Ok(x) => due == 0 && x == entry as u64,
+        Err(r) => usize::from(refusal::number(r)) == due && refusal::place(r) == 0,
     }
 }
 
@@ -38,17 +36,15 @@ pub fn compare() {
     let lent = pascal::triangle();
     let mut told = [0usize; 3];
     let mut agreed: usize = 0;
-    let mut i: usize = 0;
-    while i < NUMBERS * NUMBERS {
+    for i in 0..NUMBERS * NUMBERS {
         let top = number(i / NUMBERS);
         let bottom = number(i % NUMBERS);
         let due = plain::ways_refusal(top, bottom) % 3;
-        told[due] = std::num::wrapping_add_usize(told[due], 1);
-        agreed += test_rows::one_if(agrees(&plain, &lent, top, bottom));
-        i += 1;
+        told[due] = told[due].wrapping_add(1);
+        agreed += usize::from(agrees(&plain, &lent, top, bottom));
     }
     test_rows::print_filled(
         b"look-ups: calls # agreed # given # refused 1 # 2 #\n",
-        &[i, agreed, told[0], told[1], told[2]],
+        &[NUMBERS * NUMBERS, agreed, told[0], told[1], told[2]],
     );
 }

@@ -1,4 +1,5 @@
-// The ways to choose: single look-ups, a count of all rows, and the whole table with its refusals against sums made here.
+// The ways to choose: single look-ups, a count of all rows, and the whole table with its refusals against sums made
+// here.
 #![tactic(auto)]
 
 mod counted;

@@ -7,15 +7,13 @@ pub const WIDTH: usize = 65;
 pub fn table() -> [usize; 4225] {
     let mut table = [0usize; 4225];
     table[0] = 1;
-    let mut i: usize = 65;
-    while i < 4225 {
+    for i in WIDTH..4225 {
         let left = if i % WIDTH == 0 {
             0
         } else {
             table[i - WIDTH - 1]
         };
-        table[i] = std::num::wrapping_add_usize(table[i - WIDTH], left);
-        i += 1;
+        table[i] = table[i - WIDTH].wrapping_add(left);
     }
     table
 }
@@ -31,7 +29,7 @@ pub fn entry(table: &[usize; 4225], top: usize, bottom: usize) -> usize {
     table[WIDTH * top + bottom]
 }
 
-// The number of the refusal, 0 where nothing is refused.
+// The number of the refusal, 0 where nothing is refused, written out: this decision is none of the library's.
 pub fn ways_refusal(top: usize, bottom: usize) -> usize {
     if 64 < top {
         return 1;

@@ -1,29 +1,18 @@
 // Single look-ups: specimens, and the refusals in their order.
-use pascal::Answer;
 use test_rows::cases;
 
 fn show(line: &[u8]) {
     io::write_all(1, line);
     io::write_all(1, b": ");
-    let answer = pascal::ways(cases::number(line, 1), cases::number(line, 2));
-    match answer {
-        Answer::Ways(x) => test_rows::print_named(b"", x as usize),
-        Answer::Refused(r) => test_rows::print_refusal(r),
+    match pascal::ways(cases::number(line, 1), cases::number(line, 2)) {
+        Ok(x) => test_rows::print_named(b"", x as usize),
+        Err(r) => test_rows::print_refusal(r),
     }
     io::write_all(1, b"\n");
 }
 
-fn show_lines(text: &[u8]) {
-    let lines = test_rows::count(text, b'\n');
-    let mut i: usize = 0;
-    while i < lines {
-        show(cases::piece(text, b'\n', i));
-        i += 1;
-    }
-}
-
 pub fn show_all() {
-    show_lines(
+    cases::each(
         b"ways 0 0\n\
           ways 1 1\n\
           ways 6 3\n\
@@ -38,5 +27,7 @@ pub fn show_all() {
           ways 0 1\n\
           ways 64 65\n\
           ways 3 most\n",
+        b'\n',
+        show,
     );
 }

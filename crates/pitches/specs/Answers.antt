@@ -2,10 +2,7 @@
 use Rattle.std.specs.Prelude.{List, ℕ, length, eqb, leb}
 use Rattle.words.specs.Symbols.{first_wrong}
 use Rattle.refusal.specs.declared.Refusal.TheVariants.{Stations, Holes, Symbol, PitchSum, LastPlain, Buffer, ZeroPitch}
-use Rattle.refusal.specs.Outcomes.{Outcome, given, refused}
 use Rattle.refusal.specs.Verdicts.{Verdict, accepted, need, are_stations}
-use Rattle.pitches.specs.declared.RowAnswer.{RowAnswer}
-use Rattle.pitches.specs.declared.ListAnswer.{ListAnswer}
 use Rattle.pitches.specs.Pitches.{adds_up, first_zero, has_pitch_list, pitches_of_row}
 
 -- ---- pitch list to row
@@ -19,11 +16,6 @@ row_verdict n pitches room =
     (need (adds_up n pitches) PitchSum
     (need (leb n room) Buffer accepted))))
 
--- document 01's number for each answer: no value is returned beside the row
-abbrev pub row_outcome : RowAnswer → Outcome Unit
-row_outcome RowAnswer.Written = given tt
-row_outcome (RowAnswer.Refused r) = refused r
-
 -- ---- row to pitch list
 
 -- "Row to list: 1, 3, 8, 9."
@@ -33,8 +25,3 @@ list_verdict w room =
     (need (eqb (first_wrong 2 w) 0) (Symbol (first_wrong 2 w))
     (need (has_pitch_list w) LastPlain
     (need (leb (length (pitches_of_row w)) room) Buffer accepted)))
-
--- document 01's number and value for each answer: how many pitches it wrote
-abbrev pub list_outcome : ListAnswer → Outcome ℕ
-list_outcome (ListAnswer.Listed k) = given k
-list_outcome (ListAnswer.Refused r) = refused r

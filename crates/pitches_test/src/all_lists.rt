@@ -1,91 +1,65 @@
 // Rows of all lists of up to 4 pitches from 0 to 6, at 0 to 12 stations and in two buffers, against plain search.
 ghost use Rattle.std.specs.Prelude.{◌≤◌};
 
-use pitches::RowAnswer;
+use refusal::Refusal;
 use test_rows::FRESH;
 
-// The place of the first 0 of the list, looked for from its end; 0 where there is none.
-fn zero_place(list: &[usize; 4], count: usize) -> usize {
-    let mut place: usize = 0;
-    let mut k: usize = 4;
-    while 0 < k {
-        if k <= count && list[k - 1] == 0 {
-            place = k;
+// The place of the first 0 of the list, from 1, looked for from its end.
+fn zero_place(list: &[usize]) -> Option<usize> {
+    let mut place = None;
+    for k in (0..list.len()).rev() {
+        if list[k] == 0 {
+            place = Some(k + 1);
         }
-        k -= 1;
     }
     place
 }
 
 // The sum of the first k numbers of a list.
-fn sum(list: &[usize; 4], k: usize) -> usize {
-    let mut sum: usize = 0;
-    let mut i: usize = 0;
-    while i < 4 {
-        if i < k {
-            sum = std::num::wrapping_add_usize(sum, list[i]);
-        }
-        i += 1;
-    }
-    sum
+fn sum(list: &[usize], k: usize) -> usize {
+    list.iter().take(k).fold(0, |sum, x| sum.wrapping_add(*x))
 }
 
 // Whether some first pitches add up to the station.
-fn is_hole(list: &[usize; 4], count: usize, station: usize) -> bool {
-    let mut k: usize = 1;
-    while k <= 4 {
-        if k <= count && sum(list, k) == station {
-            return true;
-        }
-        k += 1;
-    }
-    false
+fn is_hole(list: &[usize], station: usize) -> bool {
+    (1..=list.len()).any(|k| sum(list, k) == station)
 }
 
-// The refusal's number, 0 where the row is written.
-fn number_due(n: usize, list: &[usize; 4], count: usize, room: usize) -> usize {
+// The refusal's number, 0 where the row is written. The numbers are written out: this decision is none of the library's.
+fn number_due(n: usize, list: &[usize], room: usize) -> usize {
     if n == 0 {
         return 1;
     }
-    if n < count {
+    if n < list.len() {
         return 2;
     }
-    if zero_place(list, count) != 0 {
+    if zero_place(list).is_some() {
         return 11;
     }
-    if count != 0 && sum(list, count) != n {
+    if !list.is_empty() && sum(list, list.len()) != n {
         return 7;
     }
     if room < n { 9 } else { 0 }
 }
 
 // Whether the buffer has a row of n stations at its front, and is otherwise as it was.
-fn holds_row(out: &[u8; 16], n: usize, list: &[usize; 4], count: usize) -> bool {
-    let mut i: usize = 0;
-    while i < 16 {
-        let hole = is_hole(list, count, i + 1);
-        let due = if i < n { hole as u8 } else { FRESH };
-        if out[i] != due {
-            return false;
-        }
-        i += 1;
-    }
-    true
+fn holds_row(out: &[u8; 16], n: usize, list: &[usize]) -> bool {
+    let mut bytes = out.iter().enumerate();
+    bytes.all(|(i, x)| *x
+        == if i < n {
+            u8::from(is_hole(list, i + 1))
+        } else {
+            FRESH
+        })
 }
 
 // The refusal's number, 0 where the row was written.
-fn number_told(answer: RowAnswer) -> usize {
-    match answer {
-        RowAnswer::Written => 0,
-        RowAnswer::Refused(r) => test_rows::wide(refusal::number(r)),
-    }
+fn number_told(answer: Result<(), Refusal>) -> usize {
+    answer.err().map_or(0, |r| usize::from(refusal::number(r)))
 }
 
-fn place_told(answer: RowAnswer) -> usize {
-    match answer {
-        RowAnswer::Written => 0,
-        RowAnswer::Refused(r) => refusal::place(r),
-    }
+fn place_told(answer: Result<(), Refusal>) -> usize {
+    answer.err().map_or(0, refusal::place)
 }
 
 // What a call told, and whether answer and buffer are those of plain search.
@@ -96,25 +70,24 @@ struct Outcome {
     agrees: bool,
 }
 
-fn call(n: usize, list: [usize; 4], count: usize, room: usize) -> Outcome
-    requires { (count ≤ 4) × (room ≤ 16) }
+fn call(n: usize, list: &[usize], room: usize) -> Outcome
+    requires { room ≤ 16 }
 {
     let mut out = [FRESH; 16];
-    let answer = pitches::row_of_pitches(n, &list[..count], &mut out[..room]);
+    let answer = pitches::row_of_pitches(n, list, &mut out[..room]);
     let number = number_told(answer);
     let place = place_told(answer);
-    let due = number_due(n, &list, count, room);
+    let due = number_due(n, list, room);
     let place_due = if due == 11 {
-        zero_place(&list, count)
+        zero_place(list).unwrap_or(0)
     } else {
         0
     };
     let written = if due == 0 { n } else { 0 };
-    let agrees = number == due && place == place_due && holds_row(&out, written, &list, count);
     Outcome {
         number,
         place,
-        agrees,
+        agrees: number == due && place == place_due && holds_row(&out, written, list),
     }
 }
 
@@ -155,14 +128,13 @@ fn compare_lists(count: usize)
     let mut agreed: usize = 0;
     let mut places: usize = 0;
     let mut told = [0usize; 12];
-    let mut index: usize = 0;
-    while index < calls {
-        let outcome = call(index % 13, list_of(index / 26), count, room_of(index / 13));
+    for index in 0..calls {
+        let list = list_of(index / 26);
+        let outcome = call(index % 13, &list[..count], room_of(index / 13));
         let number = outcome.number % 12;
-        agreed += test_rows::one_if(outcome.agrees);
-        places = std::num::wrapping_add_usize(places, outcome.place);
-        told[number] = std::num::wrapping_add_usize(told[number], 1);
-        index += 1;
+        agreed += usize::from(outcome.agrees);
+        places = places.wrapping_add(outcome.place);
+        told[number] = told[number].wrapping_add(1);
     }
     test_rows::print_filled(
         b"lists of # pitches: calls # agreed #",
@@ -177,9 +149,7 @@ fn compare_lists(count: usize)
 }
 
 pub fn compare_all() {
-    let mut count: usize = 0;
-    while count < 5 {
+    for count in 0..5 {
         compare_lists(count);
-        count += 1;
     }
 }

@@ -1,39 +1,28 @@
 // Pitch lists of single rows, and rows of pitch lists: specimens, and the refusals in their order.
-use pitches::{ListAnswer, RowAnswer};
+use refusal::Refusal;
 use test_rows::{FRESH, cases};
 
 // What a buffer of pitches holds before it is lent: no pitch of a row.
 pub const FRESH_PITCH: usize = 99;
 
 fn print_pitches(count: usize, list: &[usize; 80]) {
-    let mut k: usize = 0;
-    while k < count {
-        if 80 <= k {
-            return;
-        }
-        test_rows::print_named(b" ", list[k]);
-        k += 1;
+    for pitch in list.iter().take(count) {
+        test_rows::print_named(b" ", *pitch);
     }
 }
 
 // How many numbers of the buffer are as they were.
 fn count_fresh_pitches(buffer: &[usize; 80]) -> usize {
-    let mut fresh: usize = 0;
-    let mut i: usize = 0;
-    while i < 80 {
-        fresh += test_rows::one_if(buffer[i] == FRESH_PITCH);
-        i += 1;
-    }
-    fresh
+    buffer.iter().filter(|pitch| **pitch == FRESH_PITCH).count()
 }
 
-fn print_list(answer: ListAnswer, out: &[usize; 80]) {
+fn print_list(answer: Result<usize, Refusal>, out: &[usize; 80]) {
     match answer {
-        ListAnswer::Listed(k) => {
+        Ok(k) => {
             test_rows::print_filled(b"pitches #:", &[k]);
             print_pitches(k, out);
         }
-        ListAnswer::Refused(r) => test_rows::print_refusal(r),
+        Err(r) => test_rows::print_refusal(r),
     }
     test_rows::print_as_before(count_fresh_pitches(out));
 }
@@ -50,23 +39,9 @@ fn show_list(line: &[u8]) {
     print_list(answer, &out);
 }
 
-fn print_written(answer: RowAnswer, n: usize, out: &[u8; 80]) {
-    match answer {
-        RowAnswer::Written => test_rows::print_row(n, out),
-        RowAnswer::Refused(r) => test_rows::print_refusal(r),
-    }
-    test_rows::print_as_before(test_rows::count_fresh(out));
-}
-
 // The pitches of a line.
 fn pitches_in(line: &[u8]) -> [usize; 80] {
-    let mut list = [0usize; 80];
-    let mut k: usize = 0;
-    while k < 80 {
-        list[k] = cases::number(line, 9 + k);
-        k += 1;
-    }
-    list
+    std::array::from_fn(|k| cases::number(line, 9 + k))
 }
 
 // The row of a pitch list, with a buffer of 80 bytes, of which some are lent.
@@ -80,7 +55,7 @@ fn show_row(line: &[u8]) {
     test_rows::print_filled(b"row of # stations and # pitches", &[n, count]);
     print_pitches(count, &list);
     test_rows::print_filled(b" buffer #: ", &[room]);
-    print_written(answer, n, &out);
+    test_rows::print_written(answer, n, &out);
 }
 
 fn show(line: &[u8]) {
@@ -90,17 +65,8 @@ fn show(line: &[u8]) {
     show_list(line);
 }
 
-fn show_lines(text: &[u8]) {
-    let lines = test_rows::count(text, b'\n');
-    let mut i: usize = 0;
-    while i < lines {
-        show(cases::piece(text, b'\n', i));
-        i += 1;
-    }
-}
-
 pub fn show_all() {
-    show_lines(
+    cases::each(
         b"row of 8 stations buffer 80 and 3 pitches 3 3 2\n\
           row of 5 stations buffer 80 and 0 pitches\n\
           row of 1 stations buffer 1 and 1 pitches 1\n\
@@ -140,5 +106,7 @@ pub fn show_all() {
           pitch list of 2 stations 10 buffer 80\n\
           pitch list of 2 stations 10 buffer 0\n\
           pitch list of 8 stations 00100101 buffer 2\n",
+        b'\n',
+        show,
     );
 }

@@ -1,4 +1,5 @@
-// Pitch lists: specimens, refusals in their order, and all short lists and all rows of up to 10 stations against plain search.
+// Pitch lists: specimens, refusals in their order, and all short lists and all rows of up to 10 stations against plain
+// search.
 #![tactic(auto)]
 
 mod all_lists;

@@ -9,7 +9,9 @@ ghost use Rattle.refusal.specs.Verdicts.{most_stations};
 
 use extension::{goes_on, ruled_out, search_from};
 
-// What is known of some symbols: their period (0: they begin no necklace), their ones, and with how many zeros they begin.
+// What is known of some symbols: their period (0: they begin no necklace), their ones, and with how many zeros they begin. The period is
+// a number with 0 for none, as in the row of prefixes, which has 64 of them in 64 bytes; an Option would be told apart at each reading.
+// The symbols are no field: the row is changed while they are known.
 #[derive(Clone, Copy)]
 pub struct Known {
     period: usize,
@@ -20,16 +22,16 @@ pub struct Known {
 // What is known of the prefixes of some symbols: entry i is the period of the first i.
 pub type Prefixes = [u8; refusal::MOST_STATIONS];
 
-// The prefixes of some symbols, in one pass.
+// The prefixes of some symbols, in one pass. It is the scan of `words::inner::prefix_period`, by == and < as there, and writes down each
+// period; where one is asked alone, no row of 64 bytes is made.
 pub fn prefixes_of(a: &[u8]) -> Prefixes
     requires { length a.now ≤ most_stations }
     ensures { KnowsPrefixes a.now result }
 {
     let mut found = [0u8; refusal::MOST_STATIONS];
-    let mut i: usize = 1;
     let mut j: usize = 0;
     let mut p: u8 = 1;
-    while i < a.len() {
+    for i in 1..a.len() {
         found[i] = p;
         if a[i] == a[j] {
             j += 1;
@@ -38,9 +40,9 @@ pub fn prefixes_of(a: &[u8]) -> Prefixes
                 return found;
             }
             j = 0;
+            // by `as`: i is below 64, and a try_from would only add an error that never comes
             p = i as u8 + 1;
         }
-        i += 1;
     }
     found
 }
@@ -98,7 +100,7 @@ impl Known {
             };
         }
         let last = a.len() - 1;
-        let period = period_after(prefixes[last] as usize, a);
+        let period = period_after(usize::from(prefixes[last]), a);
         Known {
             period,
             ones,
@@ -115,8 +117,8 @@ impl Known {
             return self;
         }
         let last = a.len() - 1;
-        let period = prefixes[last] as usize;
-        let ones = self.ones - a[last] as usize;
+        let period = usize::from(prefixes[last]);
+        let ones = self.ones - usize::from(a[last]);
         let zeros = self.zeros;
         if last < zeros {
             return Known {
@@ -138,7 +140,7 @@ impl Known {
         ensures { Knows a.now result }
     {
         let period = period_after(self.period, a);
-        let ones = self.ones + a[a.len() - 1] as usize;
+        let ones = self.ones + usize::from(a[a.len() - 1]);
         let zeros = zeros_after(self.zeros, a);
         Known {
             period,

@@ -6,37 +6,29 @@ pub mod carried;
 ghost use Rattle.std.specs.Prelude.{◌≡◌};
 ghost use Rattle.refusal.specs.Outcomes.{decide};
 ghost use Rattle.density.specs.Necklaces.{begins};
-ghost use Rattle.prefix.specs.Question.{question_verdict, question_outcome};
+ghost use Rattle.prefix.specs.Question.{question_verdict};
 
 use carried::Known;
 use refusal::Refusal;
 
-// Yes or no, or a refusal.
-#[derive(Clone, Copy)]
-pub enum PrefixAnswer {
-    Answered(bool),
-    Refused(Refusal),
-}
-
-// The prefix question.
-pub fn ask(n: usize, d: usize, prefix: &[u8]) -> PrefixAnswer
-    ensures { question_outcome result ≡ decide (question_verdict n d prefix.now) (begins n d prefix.now) }
+// The prefix question: yes or no.
+pub fn ask(n: usize, d: usize, prefix: &[u8]) -> Result<bool, Refusal>
+    ensures { result ≡ decide (question_verdict n d prefix.now) (begins n d prefix.now) }
 {
     if !refusal::are_stations(n) {
-        return PrefixAnswer::Refused(Refusal::Stations);
+        return Err(Refusal::Stations);
     }
     if n < d {
-        return PrefixAnswer::Refused(Refusal::Holes);
+        return Err(Refusal::Holes);
     }
     if n < prefix.len() {
-        return PrefixAnswer::Refused(Refusal::Prefix);
+        return Err(Refusal::Prefix);
     }
-    let wrong = words::first_wrong(prefix, 2);
-    if wrong != 0 {
-        return PrefixAnswer::Refused(Refusal::Symbol(wrong));
+    if let Some(place) = words::first_wrong(prefix, 2) {
+        return Err(Refusal::Symbol(place));
     }
     let row = density::rows::padded(prefix);
     let prefixes = carried::prefixes_of(prefix);
     let yes = Known::read(&prefixes, prefix).ask(n, d, row, prefix.len());
-    PrefixAnswer::Answered(yes)
+    Ok(yes)
 }

@@ -1,87 +1,76 @@
-// The prefix question against a listing of all necklaces of up to 10 stations, its pitfalls, and its refusals in their order.
+// The prefix question against a listing of all necklaces of up to 10 stations, its pitfalls, and its refusals in their
+// order.
 #![tactic(auto)]
 
 ghost use Rattle.std.specs.Prelude.{◌<◌};
 
-use prefix::PrefixAnswer;
+use refusal::Refusal;
 use test_rows::cases;
 
-// A row is listed under its number: a binary 1 and then its symbols. Half of the number is that of the row without its last symbol.
-// Behind each number there is a mark for each density.
+// A row is listed under its number: a binary 1 and then its symbols. Half of the number is that of the row without its
+// last symbol. Behind each number there is a mark for each density.
 const DENSITIES: usize = 11;
 
+const MARKS: usize = 2048 * DENSITIES;
+
 // Marks the row with that number, where it is a necklace of n stations, and all that begins it.
-fn mark(marks: &mut [u8; 22528], n: usize, number: usize)
+fn mark(marks: &mut [bool; MARKS], n: usize, number: usize)
     requires { number < 2048 }
 {
-    let row = test_rows::row_of_number(n, number);
     if test_rows::stations(number) != n {
         return;
     }
-    if !test_rows::is_least(&row, n, 0) {
+    let symbols = test_rows::row_of_number(n, number);
+    let row = cases::part(&symbols, 0, n);
+    if !test_rows::is_least(row, 0) {
         return;
     }
-    let d = test_rows::count(&row, 1) % DENSITIES;
+    let d = test_rows::count(row, 1) % DENSITIES;
     let mut rest = number;
     while 0 < rest {
-        marks[rest * DENSITIES + d] = 1;
+        marks[rest * DENSITIES + d] = true;
         rest /= 2;
     }
 }
 
-fn mark_all(marks: &mut [u8; 22528], n: usize) {
-    let mut number: usize = 2;
-    while number < 2048 {
-        mark(marks, n, number);
-        number += 1;
-    }
-}
-
-// The question that a mark answers: yes 1, no 0, a refusal 2, and 3 where n stations have no such question.
-fn ask(n: usize, place: usize) -> u8 {
+// The answer to the question of a mark, where n stations have such a question.
+fn ask(n: usize, place: usize) -> Option<Result<bool, Refusal>> {
     let number = place / DENSITIES;
     let d = place % DENSITIES;
     let t = test_rows::stations(number);
-    if n < t {
-        return 3;
-    }
-    if n < d {
-        return 3;
+    if n < t || n < d {
+        return None;
     }
     let row = test_rows::row_of_number(t, number);
-    match prefix::ask(n, d, cases::part(&row, 0, t)) {
-        PrefixAnswer::Answered(yes) => test_rows::one_if(yes) as u8,
-        PrefixAnswer::Refused(_) => 2,
-    }
+    Some(prefix::ask(n, d, cases::part(&row, 0, t)))
 }
 
 // All questions on n stations.
-fn ask_all(marks: &[u8; 22528], n: usize) {
+fn ask_all(marks: &[bool; MARKS], n: usize) {
     let mut asked: usize = 0;
     let mut agreed: usize = 0;
     let mut begun: usize = 0;
-    let mut place: usize = DENSITIES;
-    while place < 22528 {
-        let answer = ask(n, place);
-        asked += test_rows::one_if(answer < 3);
-        agreed += test_rows::one_if(answer == marks[place]);
-        begun += test_rows::one_if(answer == 1);
-        place += 1;
+    for place in DENSITIES..MARKS {
+        if let Some(answer) = ask(n, place) {
+            asked += 1;
+            agreed += usize::from(answer == Ok(marks[place]));
+            begun += usize::from(answer == Ok(true));
+        }
     }
     test_rows::print_filled(b"# asked # agreed # yes #\n", &[n, asked, agreed, begun]);
 }
 
 fn compare(n: usize) {
-    let mut marks = [0u8; 22528];
-    mark_all(&mut marks, n);
+    let mut marks = [false; MARKS];
+    for number in 2..2048 {
+        mark(&mut marks, n, number);
+    }
     ask_all(&marks, n);
 }
 
 fn compare_all() {
-    let mut n: usize = 1;
-    while n <= 10 {
+    for n in 1..=10 {
         compare(n);
-        n += 1;
     }
 }
 
@@ -97,25 +86,16 @@ fn show(line: &[u8]) {
     io::write_all(1, digits);
     io::write_all(1, b": ");
     match prefix::ask(n, d, cases::part(&row, 0, digits.len())) {
-        PrefixAnswer::Answered(yes) => test_rows::print_truth(yes),
-        PrefixAnswer::Refused(r) => test_rows::print_refusal(r),
+        Ok(yes) => test_rows::print_truth(yes),
+        Err(r) => test_rows::print_refusal(r),
     }
     io::write_all(1, b"\n");
-}
-
-fn show_lines(text: &[u8]) {
-    let lines = test_rows::count(text, b'\n');
-    let mut i: usize = 0;
-    while i < lines {
-        show(cases::piece(text, b'\n', i));
-        i += 1;
-    }
 }
 
 fn main() {
     compare_all();
     // pitfalls, then refusals
-    show_lines(
+    cases::each(
         b"4 3 0\n\
           8 3 0010\n\
           8 3 010\n\
@@ -152,5 +132,7 @@ fn main() {
           4 3 0232\n\
           8 3 1002\n\
           8 3 11112\n",
+        b'\n',
+        show,
     );
 }

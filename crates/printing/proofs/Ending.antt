@@ -18,8 +18,10 @@ use Rattle.refusal.specs.declared.Refusal.TheVariants.{Unfit}
 use Rattle.walk.specs.Fit.{fit}
 use Rattle.walk.specs.Moves.{row_of, rules}
 use Rattle.walk.specs.Step.{step_of}
+use Rattle.std.specs.Prelude.{Err, Ok, Result}
+use Rattle.refusal.specs.declared.Refusal.{Refusal}
 use Rattle.walk.specs.declared.Answer.{Answer}
-use Rattle.walk.specs.declared.Answer.TheVariants.{None, Refused as StepRefused, Ring}
+use Rattle.walk.specs.declared.Answer.TheVariants.{None, Ring}
 use Rattle.walk.specs.declared.Walk.{Walk}
 use Rattle.words.specs.Rotation.{period}
 
@@ -37,10 +39,10 @@ line_some s = go s.due
     ringed true v t e = ring_some (s.number + 1) (row_of v) (period (row_of v)) t
     ringed false v t e = not_both e
 
-    answered : (a : Answer) (v : Walk) (t : ℕ) → is_done (answer_next a s.number v t).then.due ≡ false → 0 < length (answer_next a s.number v t).line
-    answered Ring v t e = ringed (ltb s.number highest64) v t e
-    answered None v t e = not_both e
-    answered (StepRefused r) v t e = not_both e
+    answered : (a : Result Answer Refusal) (v : Walk) (t : ℕ) → is_done (answer_next a s.number v t).then.due ≡ false → 0 < length (answer_next a s.number v t).line
+    answered (Ok Ring) v t e = ringed (ltb s.number highest64) v t e
+    answered (Ok None) v t e = not_both e
+    answered (Err r) v t e = not_both e
 
     go : (d : Due) → is_done (next_at d s.number s.walk).then.due ≡ false → 0 < length (next_at d s.number s.walk).line
     go (Refused r) e = not_both e

@@ -23,8 +23,10 @@ use Rattle.walk.proofs.StepAgrees.{Agrees, step_agrees}
 use Rattle.walk.specs.Fit.{fit}
 use Rattle.walk.specs.Moves.{row_of, rules}
 use Rattle.walk.specs.Step.{said_by, step_of}
+use Rattle.std.specs.Prelude.{Err, Ok, Result}
+use Rattle.refusal.specs.declared.Refusal.{Refusal}
 use Rattle.walk.specs.declared.Answer.{Answer}
-use Rattle.walk.specs.declared.Answer.TheVariants.{None, Refused as StepRefused, Ring}
+use Rattle.walk.specs.declared.Answer.TheVariants.{None, Ring}
 use Rattle.walk.specs.declared.Stepped.{Stepped}
 use Rattle.walk.specs.declared.Walk.{Walk}
 use Rattle.words.specs.Rotation.{period}
@@ -35,9 +37,9 @@ said_left k (says l) p on = line_left k l p on
 said_left k (refused c) p on = stopped
 
 -- an answer's line, and what is left behind it
-answer_left : (k : ℕ) (a : Answer) (v : Walk) (t : ℕ) → Fit rules v → (answer_next a k v t).line ++ left (answer_next a k v t).then ≡ said_left k (said_as a v) t (lines_left (k + 1) (listing_of v))
+answer_left : (k : ℕ) (a : Result Answer Refusal) (v : Walk) (t : ℕ) → Fit rules v → (answer_next a k v t).line ++ left (answer_next a k v t).then ≡ said_left k (said_as a v) t (lines_left (k + 1) (listing_of v))
 unfolding left rings_left
-answer_left k Ring v t f = go (ltb k highest64) ∙ ap (λ s. said_left k s t (lines_left (k + 1) (listing_of v))) (sym (said_row (row_of v) some))
+answer_left k (Ok Ring) v t f = go (ltb k highest64) ∙ ap (λ s. said_left k s t (lines_left (k + 1) (listing_of v))) (sym (said_row (row_of v) some))
   where
     some : 0 < length (row_of v)
     some = let s = fit_sound f in omega (arith, length-take-le v.n v.row (omega (arith, s.most, s.long)), s.some)
@@ -45,8 +47,8 @@ answer_left k Ring v t f = go (ltb k highest64) ∙ ap (λ s. said_left k s t (l
     go : (b : Bool) → (ring_next b k v t).line ++ left (ring_next b k v t).then ≡ cond b (ring_line (k + 1) (row_of v) (period (row_of v)) t ++ lines_left (k + 1) (listing_of v)) stopped
     go true = rw f.test
     go false = append-nil stopped
-answer_left k None v t f = append-nil (end_line t)
-answer_left k (StepRefused r) v t f =
+answer_left k (Ok None) v t f = append-nil (end_line t)
+answer_left k (Err r) v t f =
     let e = (some_number r).1 in
     append-nil stopped ∙ ap (λ c. said_left k (said_by c []) t (lines_left (k + 1) (listing_of v))) (sym e)
 
@@ -114,14 +116,14 @@ step_long w l = go (fit rules w) refl
     go true e = (step_agrees rules w highest64 (record { test = e; long = l })).fits.long
     go false e = rw e l
 
-answer_walk : (a : Answer) (k : ℕ) (v : Walk) (t : ℕ) → (answer_next a k v t).then.walk ≡ v
-answer_walk Ring k v t = go (ltb k highest64)
+answer_walk : (a : Result Answer Refusal) (k : ℕ) (v : Walk) (t : ℕ) → (answer_next a k v t).then.walk ≡ v
+answer_walk (Ok Ring) k v t = go (ltb k highest64)
   where
     go : (b : Bool) → (ring_next b k v t).then.walk ≡ v
     go true = refl
     go false = refl
-answer_walk None k v t = refl
-answer_walk (StepRefused r) k v t = refl
+answer_walk (Ok None) k v t = refl
+answer_walk (Err r) k v t = refl
 
 pub next_long : (s : Printing) → length s.walk.row ≡ most_stations → length (next_of s).then.walk.row ≡ most_stations
 unfolding next_of

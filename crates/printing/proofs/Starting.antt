@@ -25,8 +25,8 @@ use Rattle.refusal.specs.declared.Refusal.{Refusal}
 use Rattle.refusal.specs.declared.Refusal.TheVariants.{Holes, Kind, Limit as LimitLength, Stations, Symbol}
 use Rattle.walk.proofs.Demand.{Admitted, accepted_opening, fresh_fit, fresh_stands}
 use Rattle.walk.specs.Moves.{rules}
-use Rattle.walk.specs.Opening.{fresh, open_outcome, open_verdict, open_walk}
-use Rattle.walk.specs.declared.OpenAnswer.{OpenAnswer}
+use Rattle.walk.specs.Opening.{fresh, open_verdict, open_walk}
+use Rattle.std.specs.Prelude.{Err, Ok}
 use Rattle.walk.specs.declared.Opened.{Opened}
 use Rattle.words.proofs.Booleans.{never}
 use Rattle.words.specs.Symbols.{first_wrong}
@@ -70,14 +70,14 @@ module _ (n d kind : ℕ) (limit : List ℕ) where
 
 -- ---- what opening hands out
 
-module _ (n d kind : ℕ) (limit : List ℕ) (o : Opened) (e : open_outcome o.answer ≡ decide (open_verdict n d kind limit) tt) (w : o.walk ≡ open_walk (open_verdict n d kind limit) rules n d kind limit) where
-  pub opened_left : o.answer ≡ OpenAnswer.Open → left (printing o.walk 0 Header) ≡ asked_text n d kind limit
+module _ (n d kind : ℕ) (limit : List ℕ) (o : Opened) (e : o.answer ≡ decide (open_verdict n d kind limit) tt) (w : o.walk ≡ open_walk (open_verdict n d kind limit) rules n d kind limit) where
+  pub opened_left : o.answer ≡ Ok tt → left (printing o.walk 0 Header) ≡ asked_text n d kind limit
   unfolding left
   opened_left a =
-      let f : open_verdict n d kind limit ≡ accepted = given_so _ tt tt (sym e ∙ ap open_outcome a) in
+      let f : open_verdict n d kind limit ≡ accepted = given_so _ tt tt (sym e ∙ a) in
       rw (w, f) (ap {B = List ℕ} (λ t. header ++ t) (opened_lines n d kind limit (accepted_opening n d kind limit f)))
 
-  pub refused_left : (r : Refusal) → o.answer ≡ OpenAnswer.Refused r → refusal_text r ≡ asked_text n d kind limit
+  pub refused_left : (r : Refusal) → o.answer ≡ Err r → refusal_text r ≡ asked_text n d kind limit
   refused_left r a =
-      let f : open_verdict n d kind limit ≡ refused r = refused_so _ tt r (sym e ∙ ap open_outcome a) in
+      let f : open_verdict n d kind limit ≡ refused r = refused_so _ tt r (sym e ∙ a) in
       rw f

@@ -14,20 +14,22 @@ use Rattle.walk.proofs.StepAgrees.{step_agrees}
 use Rattle.walk.specs.Fit.{fit}
 use Rattle.walk.specs.Moves.{row_of, rules}
 use Rattle.walk.specs.Step.{step_of}
-use Rattle.walk.specs.declared.Answer.TheVariants.{Refused, Ring}
+use Rattle.walk.specs.declared.Answer.{Answer}
+use Rattle.walk.specs.declared.Answer.TheVariants.{Ring}
+use Rattle.std.specs.Prelude.{Err, Ok, Result}
 use Rattle.walk.specs.declared.Stepped.{Stepped}
 use Rattle.walk.specs.declared.Walk.{Walk}
 use Rattle.words.proofs.Booleans.{clash}
 
-refused≢ring : {r : Refusal} → Refused r ≡ Ring → ⊥
+refused≢ring : {r : Refusal} → let refused : Result Answer Refusal = Err r in refused ≡ Ok Ring → ⊥
 refused≢ring e = clash (cc)
 
 -- an unfit walk is refused
-unfit_step : (w : Walk) → fit rules w ≡ false → (step_of rules w highest64).answer ≡ Refused Unfit
+unfit_step : (w : Walk) → fit rules w ≡ false → (step_of rules w highest64).answer ≡ Err Unfit
 unfolding step_of
 unfit_step w e = rw e
 
-pub ring_given : (w : Walk) (r : Stepped) → r ≡ step_of rules w highest64 → length w.row ≡ most_stations → r.answer ≡ Ring → GivenRing r.walk
+pub ring_given : (w : Walk) (r : Stepped) → r ≡ step_of rules w highest64 → length w.row ≡ most_stations → r.answer ≡ Ok Ring → GivenRing r.walk
 ring_given w r e l f = go (fit rules w) refl
   where
     go : (b : Bool) → fit rules w ≡ b → GivenRing r.walk

@@ -1,5 +1,5 @@
 -- What is claimed of the program's text, and of its pieces, however it is cut.
-use Rattle.std.specs.Prelude.{false, true, List, ◌++◌, ◌↔◌, ◌≡◌, ℕ, ◌+◌, ◌<◌, ◌≤◌, drop, length, take}
+use Rattle.std.specs.Prelude.{Ok, Err, false, true, List, ◌++◌, ◌↔◌, ◌≡◌, ℕ, ◌+◌, ◌<◌, ◌≤◌, drop, length, take}
 use Rattle.density.specs.Lengths.{HowMany, at_most, drawer_length, exactly}
 use Rattle.drawer_input.specs.Input.{Asked, read_drawer}
 use Rattle.drawer_lines.specs.Lines.{longest_line}
@@ -9,7 +9,6 @@ use Rattle.printing.specs.Pieces.{Fills, HandedOut}
 use Rattle.printing.specs.Text.{lines_text, printed}
 use Rattle.printing.specs.declared.Filled.{Filled}
 use Rattle.printing.specs.declared.Printing.{Printing}
-use Rattle.refusal.specs.Outcomes.{Outcome, given}
 use Rattle.refusal.specs.Refusals.{number_of, place_of}
 use Rattle.refusal.specs.Verdicts.{Verdict, accepted}
 use Rattle.refusal.specs.declared.Refusal.{Refusal}
@@ -23,15 +22,15 @@ use Rattle.walk.specs.Opening.{open_verdict}
 -- "It prints names, then values": those of the drawer's book, of the kind and from the limit that were asked.
 abbrev pub PrintedBook : Type 0
 PrintedBook =
-    (input : List ℕ) (a : Asked) → read_drawer input ≡ given a → open_verdict a.stations a.holes a.kind a.limit ≡ accepted
+    (input : List ℕ) (a : Asked) → read_drawer input ≡ Ok a → open_verdict a.stations a.holes a.kind a.limit ≡ accepted
     → printed input ≡ ascii "number row period trials\n" ++ lines_text 0 (book a.stations a.holes a.kind a.limit)
 
 -- "A refusal prints the line `refused place`, then a line with the two numbers, and nothing else", for the text or for the opening.
 abbrev pub PrintedRefusal : Type 0
 PrintedRefusal =
     (input : List ℕ) (r : Refusal) → let text = ascii "refused place\n" ++ (field (number_of r) 32 ++ field (place_of r) 10) in
-    (read_drawer input ≡ Outcome.refused r → printed input ≡ text)
-    × ((a : Asked) → read_drawer input ≡ given a → open_verdict a.stations a.holes a.kind a.limit ≡ Verdict.refused r
+    (read_drawer input ≡ Err r → printed input ≡ text)
+    × ((a : Asked) → read_drawer input ≡ Ok a → open_verdict a.stations a.holes a.kind a.limit ≡ Verdict.refused r
     → printed input ≡ text)
 
 -- ---- its pieces
@@ -71,5 +70,5 @@ LinesFor (at_most x) lines = lines ≤ x + 2
 -- "A printed drawer has that many lines plus two": an input that is read and opens a drawer
 abbrev pub PrintedLines : Type 0
 PrintedLines =
-    (input : List ℕ) (a : Asked) → read_drawer input ≡ given a → open_verdict a.stations a.holes a.kind a.limit ≡ accepted
+    (input : List ℕ) (a : Asked) → read_drawer input ≡ Ok a → open_verdict a.stations a.holes a.kind a.limit ≡ accepted
     → LinesFor (drawer_length a.stations a.holes a.kind a.limit) (line_feeds (printed input))

@@ -1,5 +1,5 @@
 -- The next line of a printing and the printing behind it, as the code goes from line to line. Not of document 01.
-use Rattle.std.specs.Prelude.{Bool, true, false, List, [], ◌≡◌, ℕ, ◌+◌, ◌≤◌, ltb, length}
+use Rattle.std.specs.Prelude.{Result, Ok, Err, Bool, true, false, List, [], ◌≡◌, ℕ, ◌+◌, ◌≤◌, ltb, length}
 use Rattle.drawer_lines.specs.Lines.{end_line, header, longest_line, refusal_text, ring_line}
 use Rattle.printing.specs.Left.{highest64, stopped}
 use Rattle.printing.specs.declared.Due.{Due}
@@ -11,7 +11,7 @@ use Rattle.walk.specs.Moves.{row_of, rules}
 use Rattle.walk.specs.Step.{step_of}
 use Rattle.walk.specs.declared.Answer.{Answer}
 use Rattle.walk.specs.declared.Answer.TheVariants.{Ring, None}
-use Rattle.walk.specs.declared.Answer.TheVariants.{Refused as StepRefused}
+use Rattle.refusal.specs.declared.Refusal.{Refusal}
 use Rattle.walk.specs.declared.Stepped.{Stepped}
 use Rattle.walk.specs.declared.Walk.{Walk}
 use Rattle.words.specs.Rotation.{is_necklace, period}
@@ -40,10 +40,10 @@ ring_next true k w t = line_then (ring_line (k + 1) (row_of w) (period (row_of w
 ring_next false k w t = last_line stopped k w
 
 -- by a step's answer
-abbrev pub answer_next : Answer → ℕ → Walk → ℕ → Next
-answer_next Ring k w t = ring_next (ltb k highest64) k w t
-answer_next None k w t = last_line (end_line t) k w
-answer_next (StepRefused r) k w t = last_line stopped k w
+abbrev pub answer_next : Result Answer Refusal → ℕ → Walk → ℕ → Next
+answer_next (Ok Ring) k w t = ring_next (ltb k highest64) k w t
+answer_next (Ok None) k w t = last_line (end_line t) k w
+answer_next (Err r) k w t = last_line stopped k w
 
 -- by a step that is allowed all that can be
 abbrev pub step_next : Stepped → ℕ → Next

@@ -1,9 +1,9 @@
 -- The drawer program's whole printed text, from the bytes of its input alone. Nothing of a walk's record is in it.
-use Rattle.std.specs.Prelude.{List, [], ◌++◌, ℕ, ◌+◌}
+use Rattle.std.specs.Prelude.{Result, Ok, Err, List, [], ◌++◌, ℕ, ◌+◌}
 use Rattle.density.specs.Necklaces.{of_kind}
 use Rattle.drawer_input.specs.Input.{Asked, read_drawer}
 use Rattle.drawer_lines.specs.Lines.{end_line, header, refusal_text, ring_line}
-use Rattle.refusal.specs.Outcomes.{Outcome, given}
+use Rattle.refusal.specs.declared.Refusal.{Refusal}
 use Rattle.refusal.specs.Verdicts.{Verdict, accepted, refused}
 use Rattle.listing.specs.Listing.{Listing, entry, listing, none, over, ring}
 use Rattle.walk.specs.Opening.{open_verdict}
@@ -26,9 +26,9 @@ abbrev pub asked_text : ℕ → ℕ → ℕ → List ℕ → List ℕ
 asked_text n d kind limit = opened_text (open_verdict n d kind limit) n d kind limit
 
 -- the text for what was read
-abbrev pub input_text : Outcome Asked → List ℕ
-input_text (given a) = asked_text a.stations a.holes a.kind a.limit
-input_text (Outcome.refused r) = refusal_text r
+abbrev pub input_text : Result Asked Refusal → List ℕ
+input_text (Ok a) = asked_text a.stations a.holes a.kind a.limit
+input_text (Err r) = refusal_text r
 
 -- all that the program prints
 unfoldable pub printed : List ℕ → List ℕ

@@ -9,13 +9,13 @@ ghost use Rattle.printing.specs.Text.{printed};
 ghost use Rattle.printing.specs.Left.{left};
 ghost use Rattle.printing.specs.Pieces.{Fills};
 
-use drawer_input::{MOST_BYTES, Request};
+use drawer_input::MOST_BYTES;
 use drawer_lines::LONGEST_LINE;
 use refusal::Refusal;
 use walk::Walk;
 
 // What is due next: a refusal, the names, a ring or the end, or nothing.
-#[derive(Clone, Copy)]
+#[derive(Clone, Copy, PartialEq, Eq)]
 pub enum Due {
     Refused(Refusal),
     Header,
@@ -24,15 +24,16 @@ pub enum Due {
 }
 
 // A text that is being printed: the walk, how many rings were printed, and what is due.
-#[derive(Clone, Copy)]
+#[derive(Clone, Copy, PartialEq, Eq)]
 pub struct Printing {
     pub walk: Walk,
     pub number: u64,
     pub due: Due,
 }
 
-// What filling a buffer hands back: the printing behind it, how many bytes were written, and whether that was all.
-#[derive(Clone, Copy)]
+// What filling a buffer hands back: the printing behind it, how many bytes were written, and whether that was all: a field, as the claim
+// DoneExactly names it.
+#[derive(Clone, Copy, PartialEq, Eq)]
 pub struct Filled {
     pub state: Printing,
     pub used: usize,
@@ -45,10 +46,9 @@ impl Printing {
         ensures { left result ≡ printed text.now }
     {
         let mut limit = [0u8; MOST_BYTES];
-        let request = drawer_input::read_drawer(text, &mut limit);
-        match request {
-            Request::Drawer(n, d, kind, size) => opening::start_walk(n, d, kind, size, &limit),
-            Request::Refused(r) => opening::start_refusal(r),
+        match drawer_input::read_drawer(text, &mut limit) {
+            Ok(request) => opening::start_walk(request, &limit),
+            Err(r) => opening::start_refusal(r),
         }
     }
 
@@ -73,7 +73,7 @@ impl Printing {
         Filled {
             state,
             used,
-            done: lines::is_done(state),
+            done: lines::is_done(state.due),
         }
     }
 }

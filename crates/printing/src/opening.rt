@@ -5,17 +5,15 @@ ghost use Rattle.printing.specs.Text.{asked_text};
 ghost use Rattle.printing.specs.Left.{left};
 
 use crate::{Due, Printing};
+use drawer_input::Request;
 use refusal::Refusal;
-use walk::{OpenAnswer, Walk};
+use walk::Walk;
 
 // A kind that no byte holds is no kind, as 0 is none.
 fn kind_byte(kind: usize) -> u8
     ensures { result ≡ cond (ltb kind 256) kind 0 }
 {
-    if kind < 256 {
-        return kind as u8;
-    }
-    0
+    u8::try_from(kind).unwrap_or(0)
 }
 
 // The text of a refusal. Nothing is walked.
@@ -30,19 +28,22 @@ pub fn start_refusal(r: Refusal) -> Printing
 }
 
 // The text of a drawer, at or below a limit of some symbols at the front of a buffer.
-pub fn start_walk(n: usize, d: usize, kind: usize, size: usize, symbols: &[u8]) -> Printing
-    requires { size ≤ length symbols.now }
-    ensures { left result ≡ asked_text n d kind (take size symbols.now) }
+pub fn start_walk(asked: Request, symbols: &[u8]) -> Printing
+    requires { asked.size ≤ length symbols.now }
+    ensures { left result ≡ asked_text asked.stations asked.holes asked.kind (take asked.size symbols.now) }
 {
-    let opened = Walk::open(n, d, kind_byte(kind), &symbols[..size]);
-    let answer = opened.answer;
-    let walk = opened.walk;
-    match answer {
-        OpenAnswer::Open => Printing {
-            walk,
+    let opened = Walk::open(
+        asked.stations,
+        asked.holes,
+        kind_byte(asked.kind),
+        &symbols[..asked.size],
+    );
+    match opened.answer {
+        Ok(()) => Printing {
+            walk: opened.walk,
             number: 0,
             due: Due::Header,
         },
-        OpenAnswer::Refused(r) => start_refusal(r),
+        Err(r) => start_refusal(r),
     }
 }

@@ -1,8 +1,11 @@
 // Inputs made of numbers, and the refusal of each.
-ghost use Rattle.std.specs.Prelude.{◌≡◌, ◌<◌, ◌≤◌, ◌*◌, length};
-ghost use Rattle.refusal.specs.Verdicts.{most_stations};
+ghost use Rattle.std.specs.Prelude.{◌<◌, ◌≤◌};
 
-// An input: stations, holes and kind, a limit of the last `size` binary digits of a number, and a wrong byte at a place of it, or at none.
+use test_rows::cases;
+use test_texts::Text;
+
+// An input: stations, holes and kind, a limit of the last `size` binary digits of a number, and a wrong byte at a place
+// of it, from 1, or none.
 #[derive(Clone, Copy)]
 pub struct Case {
     pub n: usize,
@@ -10,8 +13,7 @@ pub struct Case {
     pub kind: usize,
     pub size: usize,
     pub limit: usize,
-    pub wrong: usize,
-    pub byte: u8,
+    pub wrong: Option<(usize, u8)>,
 }
 
 // A drawer at a limit.
@@ -22,70 +24,41 @@ pub fn drawer(n: usize, d: usize, kind: usize, limit: usize) -> Case {
         kind,
         size: n,
         limit,
-        wrong: 0,
-        byte: 0,
+        wrong: None,
     }
 }
 
-// The limit's bytes.
-fn limit_of(case: Case) -> [u8; refusal::MOST_STATIONS]
-    requires { case.size ≤ most_stations }
-{
-    let mut row = test_rows::digits_of_number(case.size, case.limit);
-    let wrong = case.wrong;
-    if wrong == 0 {
-        return row;
+impl Case {
+    // The input, with a limit of at most 64 bytes.
+    pub fn add_input(self, text: &mut Text) {
+        let mut limit = test_rows::digits_of_number(self.size, self.limit);
+        if let Some((place, byte)) = self.wrong {
+            if 0 < place && place <= refusal::MOST_STATIONS {
+                limit[place - 1] = byte;
+            }
+        }
+        text.add_input(self.n, self.d, self.kind, cases::part(&limit, 0, self.size));
     }
-    if refusal::MOST_STATIONS < wrong {
-        return row;
-    }
-    row[wrong - 1] = case.byte;
-    row
-}
 
-// The input, with a limit of at most 64 bytes.
-pub fn append_input(text: &mut [u8], case: Case) -> usize
-    requires { 8192 ≡ length text.old }
-    ensures { (result ≤ 8192) × (8192 ≡ length text.new) }
-{
-    let size = case.size;
-    if refusal::MOST_STATIONS < size {
-        return 0;
+    // The refusal's number and place, in document 01's order.
+    pub fn refused(self) -> Option<(usize, usize)> {
+        if self.size == 0 {
+            return Some((10, 2));
+        }
+        if !refusal::are_stations(self.n) {
+            return Some((1, 0));
+        }
+        if self.n < self.d {
+            return Some((2, 0));
+        }
+        if self.kind == 0 || 3 < self.kind {
+            return Some((5, 0));
+        }
+        if self.size != self.n {
+            return Some((4, 0));
+        }
+        self.wrong.map(|(place, _)| (3, place))
     }
-    let row = limit_of(case);
-    test_texts::fill(
-        text,
-        0,
-        b"stations holes kind limit\n# # # @\n",
-        case.n,
-        case.d,
-        case.kind,
-        0,
-        &row[..size],
-    )
-}
-
-// The refusal's number, in document 01's order, as a hundred times it plus the place beside it; 0 where there is none.
-pub fn refused(case: Case) -> usize {
-    if case.size == 0 {
-        return 1002;
-    }
-    if !refusal::are_stations(case.n) {
-        return 100;
-    }
-    if case.n < case.d {
-        return 200;
-    }
-    if case.kind == 0 || 3 < case.kind {
-        return 500;
-    }
-    if case.size != case.n {
-        return 400;
-    }
-    if case.wrong == 0 {
-        return 0;
-    }
-    300 + case.wrong % 100
 }
 
 // ---- openings, refused and not
@@ -106,19 +79,23 @@ fn size_of(n: usize, i: usize) -> usize
     if most == 0 { 0 } else { most - 1 }
 }
 
-// No wrong symbol, or one at the first place, at the last or amid.
-fn wrong_of(size: usize, i: usize) -> usize
+// The place of a wrong symbol: none, the first, the last or one amid.
+fn wrong_of(size: usize, i: usize) -> Option<usize>
     requires { size ≤ 17 }
 {
+    if size == 0 {
+        return None;
+    }
     match i {
-        0 => 0,
-        1 => 1,
-        2 => size,
-        _ => (size + 1) / 2,
+        0 => None,
+        1 => Some(1),
+        2 => Some(size),
+        _ => Some((size + 1) / 2),
     }
 }
 
-// Stations 0 to 6 and 64 to 66, 0 to 6 holes and 999, kinds 0 to 4 and 256 to 260, some of which a byte would cut to 1 to 3.
+// Stations 0 to 6 and 64 to 66, 0 to 6 holes and 999, kinds 0 to 4 and 256 to 260, some of which a byte would cut to 1
+// to 3.
 pub fn opening(index: usize) -> Case {
     let n = spread(index % 10, 7, 57);
     let size = size_of(n, index / 800 % 3);
@@ -129,32 +106,33 @@ pub fn opening(index: usize) -> Case {
         kind: spread(index / 80 % 10, 5, 251),
         size,
         limit: index % 1000 * 37,
-        wrong: wrong_of(size, which),
-        byte: (which * 80) as u8,
+        wrong: wrong_of(size, which).map(|place| (place, (which * 80) as u8)),
     }
 }
 
 // ---- drawers
 
 // How many limits a drawer is listed at: at all of them up to 7 stations, else at n ones.
-fn limits_of(n: usize, half: usize) -> usize
-    requires { (1 ≤ half) × (half ≤ 8192) }
-    ensures { (1 ≤ result) × (result ≤ 2 * half) }
+fn limits_of(n: usize) -> usize
+    ensures { (1 ≤ result) × (result ≤ 128) }
 {
-    if n < 8 { 2 * half } else { 1 }
+    if n < 8 { 1usize << n } else { 1 }
 }
 
 // How many drawers of n stations there are, each of each kind and at each limit.
 pub fn count(n: usize) -> usize
     requires { n ≤ 14 }
 {
-    (n + 1) * 3 * limits_of(n, test_walks::book::half_of(n))
+    (n + 1) * 3 * limits_of(n)
 }
 
 // The drawers of n stations: each kind of each limit, holes by holes.
 pub fn numbered(n: usize, index: usize) -> Case {
-    let half = test_walks::book::half_of(n);
-    let limits = limits_of(n, half);
-    let limit = index / 3 % limits + (2 * half - limits);
+    let limits = limits_of(n);
+    let limit = if n < 8 {
+        index / 3 % limits
+    } else {
+        usize::MAX
+    };
     drawer(n, index / 3 / limits, 1 + index % 3, limit)
 }

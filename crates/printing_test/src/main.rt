@@ -9,12 +9,12 @@ mod states;
 
 use printing::Printing;
 use sets::Set;
+use test_texts::Text;
 
 // The text of an input, printed in buffers of 128 bytes.
 fn print_pieces(input: &[u8]) {
     let mut state = Printing::start(input);
-    let mut pieces: usize = 0;
-    while pieces < 1000 {
+    for _ in 0..1000 {
         let mut out = [0u8; 128];
         let filled = state.fill(&mut out);
         test_texts::print_front(filled.used, &out);
@@ -22,15 +22,14 @@ fn print_pieces(input: &[u8]) {
             return;
         }
         state = filled.state;
-        pieces += 1;
     }
 }
 
 // The text of a drawer at ones.
 fn show(n: usize, d: usize, kind: usize) {
-    let mut input = [0u8; 8192];
-    let size = drawers::append_input(&mut input, drawers::drawer(n, d, kind, test_rows::MOST));
-    print_pieces(&input[..size]);
+    let mut input = Text::new();
+    drawers::drawer(n, d, kind, usize::MAX).add_input(&mut input);
+    print_pieces(input.as_slice());
 }
 
 fn show_faults() {
@@ -43,11 +42,9 @@ fn show_faults() {
 }
 
 fn show_drawers() {
-    let mut n: usize = 1;
-    while n <= 14 {
+    for n in 1..=14 {
         test_rows::print_named(b"stations ", n);
         sets::show(b"", Set::Drawers(n), drawers::count(n));
-        n += 1;
     }
 }
 

@@ -1,83 +1,42 @@
-// The drawer program's text, printed plainly into a buffer of 8192 bytes: numbers by the kit's digits, rings by a plain listing.
-ghost use Rattle.std.specs.Prelude.{◌≡◌, ◌<◌, ◌≤◌, ◌*◌, length};
-
-use test_walks::book::Book;
+// The drawer program's text, printed plainly: numbers by the kit's digits, rings by a plain listing.
+use test_rows::{Drawer, cases};
+use test_texts::Text;
+use test_walks::book::{Book, Next, Shelf};
 
 // A refusal's text.
-pub fn append_refusal(text: &mut [u8], number: usize, place: usize) -> usize
-    requires { 8192 ≡ length text.old }
-    ensures { (result ≤ 8192) × (8192 ≡ length text.new) }
-{
-    test_texts::fill(text, 0, b"refused place\n# #\n", number, place, 0, 0, b"")
-}
-
-// The first turn that gives the row back.
-fn period(n: usize, number: usize) -> usize
-    requires { (0 < n) × (n ≤ 14) }
-{
-    let row = test_rows::row_of_number(n, number);
-    let mut j: usize = 1;
-    while j < n {
-        if test_rows::turn_order(&row, n, j, 0) == 1 {
-            return j;
-        }
-        j += 1;
-    }
-    n
+pub fn add_refusal(text: &mut Text, number: usize, place: usize) {
+    text.fill(b"refused place\n# #\n", &[number, place], b"");
 }
 
 // A ring's line, or the last.
-fn append_line(text: &mut [u8], at: usize, number: usize, n: usize, book: Book) -> usize
-    requires { (at ≤ 8192) × (8192 ≡ length text.old) × (0 < n) × (n ≤ 14) }
-    ensures { (result ≤ 8192) × (8192 ≡ length text.new) }
-{
-    if book.none {
-        return test_texts::fill(text, at, b"end - - #\n", book.owed, 0, 0, 0, b"");
+fn add_line(text: &mut Text, number: usize, book: Book) {
+    let owed = book.owed as usize;
+    if book.next == Next::None {
+        return text.fill(b"end - - #\n", &[owed], b"");
     }
-    let row = test_rows::digits_of_number(n, book.number);
-    let period = period(n, book.number);
-    test_texts::fill(
-        text,
-        at,
+    let n = book.row.shelf.drawer.n;
+    let row = test_rows::row_of_number(n, book.row.number);
+    let digits = test_rows::digits_of_number(n, book.row.number);
+    let period = test_rows::period(cases::part(&row, 0, n));
+    text.fill(
         b"# @ # #\n",
-        number,
-        period,
-        book.owed,
-        0,
-        &row[..n],
-    )
+        &[number, period, owed],
+        cases::part(&digits, 0, n),
+    );
 }
 
-// The names, the lines of a drawer's book, and its end.
-fn append_book(text: &mut [u8], n: usize, half: usize, d: usize, kind: u8, limit: usize) -> usize
-    requires { (8192 ≡ length text.old) × (0 < n) × (n ≤ 14) × (half ≤ 8192) × (limit < 2 * half) }
-    ensures { (result ≤ 8192) × (8192 ≡ length text.new) }
-{
-    let mut at = test_texts::append(text, 0, b"number row period trials\n");
-    let mut book = test_walks::book::opened(n, half, d, kind, limit);
-    let mut number: usize = 1;
-    while number < 1000 {
-        at = append_line(text, at, number, n, book);
-        if book.none {
-            return at;
+// The names, the lines of the book of a drawer of up to 14 stations, and its end.
+pub fn add_drawer(text: &mut Text, drawer: Drawer, limit: usize) {
+    if 14 < drawer.n {
+        return;
+    }
+    text.append(b"number row period trials\n");
+    let mut book = Shelf::new(drawer).opened(limit);
+    for number in 1..1000 {
+        add_line(text, number, book);
+        if book.next == Next::None {
+            return;
         }
-        book = test_walks::book::stepped(n, half, d, kind, book, 100000);
-        number += 1;
+        book = book.stepped(100000);
     }
-    0
-}
-
-// The text of a drawer of up to 14 stations.
-pub fn append_drawer(text: &mut [u8], n: usize, d: usize, kind: u8, limit: usize) -> usize
-    requires { 8192 ≡ length text.old }
-    ensures { (result ≤ 8192) × (8192 ≡ length text.new) }
-{
-    if n == 0 {
-        return 0;
-    }
-    if 14 < n {
-        return 0;
-    }
-    let half = test_walks::book::half_of(n);
-    append_book(text, n, half, d, kind, limit % (2 * half))
 }

@@ -1,12 +1,16 @@
 // Sets of texts, each with what is due for its k-th, and the buffers that it is printed in.
-ghost use Rattle.std.specs.Prelude.{◌≡◌, ◌≤◌, length};
+ghost use Rattle.std.specs.Prelude.{◌≤◌};
 
 use crate::drawers::Case;
-use crate::pieces::Tally;
+use crate::pieces::{Rooms, Tally};
+use crate::{drawers, plain};
 use printing::Printing;
+use test_rows::{Drawer, cases};
+use test_texts::Text;
 
-// Document 01's example: its first k bytes; with another byte in its names; with k bytes behind it; with a limit of k ones. Openings of every
-// refusal. All drawers of n stations. One drawer (n, d) of a kind. States that no start hands out.
+// Document 01's example: its first k bytes; with another byte in its names; with k bytes behind it; with a limit of k
+// ones. Openings of every refusal. All drawers of n stations. One drawer (n, d) of a kind. States that no start hands
+// out.
 #[derive(Clone, Copy)]
 pub enum Set {
     Cut,
@@ -22,60 +26,36 @@ pub enum Set {
 // The drawer of a text; of the faults, the example's.
 fn case(set: Set, k: usize) -> Case {
     match set {
-        Set::Openings => crate::drawers::opening(k),
-        Set::Drawers(n) => crate::drawers::numbered(n, k),
-        Set::One(n, d, kind) => crate::drawers::drawer(n, d, kind, 16383),
-        _ => crate::drawers::drawer(6, 3, 1, 63),
+        Set::Openings => drawers::opening(k),
+        Set::Drawers(n) => drawers::numbered(n, k),
+        Set::One(n, d, kind) => drawers::drawer(n, d, kind, 16383),
+        _ => drawers::drawer(6, 3, 1, 63),
     }
 }
 
 // A form with k bytes that are all the same, up to 300.
-fn append_many(text: &mut [u8], form: &[u8], byte: u8, k: usize) -> usize
-    requires { 8192 ≡ length text.old }
-    ensures { (result ≤ 8192) × (8192 ≡ length text.new) }
-{
-    let many = [byte; 300];
-    if 300 < k {
-        return 0;
-    }
-    test_texts::fill(text, 0, form, 0, 0, 0, 0, &many[..k])
+fn add_many(text: &mut Text, form: &[u8], byte: u8, k: usize) {
+    text.fill(form, &[], cases::part(&[byte; 300], 0, k));
 }
 
 // The example with another byte at a place of its names.
-fn append_renamed(text: &mut [u8], place: usize) -> usize
-    requires { 8192 ≡ length text.old }
-    ensures { (result ≤ 8192) × (8192 ≡ length text.new) }
-{
-    let end = crate::drawers::append_input(text, crate::drawers::drawer(6, 3, 1, 63));
+fn add_renamed(text: &mut Text, place: usize) {
     let at = place % 26;
-    text[at] = text[at] % 255 + 1;
-    end
+    drawers::drawer(6, 3, 1, 63).add_input(text);
+    text.bytes[at] = text.bytes[at] % 255 + 1;
 }
 
-fn append_input(text: &mut [u8], set: Set, k: usize) -> usize
-    requires { 8192 ≡ length text.old }
-    ensures { (result ≤ 8192) × (8192 ≡ length text.new) }
-{
+fn add_input(text: &mut Text, set: Set, k: usize) {
     match set {
-        Set::Name => append_renamed(text, k),
-        Set::Behind => append_many(
+        Set::Name => add_renamed(text, k),
+        Set::Behind => add_many(
             text,
             b"stations holes kind limit\n6 3 1 111111\n@",
             b'\n',
             k,
         ),
-        Set::Limit => append_many(text, b"stations holes kind limit\n6 3 1 @\n", b'1', k),
-        _ => crate::drawers::append_input(text, case(set, k)),
-    }
-}
-
-// How many bytes of an input are kept.
-fn kept(set: Set, k: usize, all: usize) -> usize
-    ensures { result ≤ all }
-{
-    match set {
-        Set::Cut => if k < all { k } else { all },
-        _ => all,
+        Set::Limit => add_many(text, b"stations holes kind limit\n6 3 1 @\n", b'1', k),
+        _ => case(set, k).add_input(text),
     }
 }
 
@@ -83,65 +63,58 @@ fn start(set: Set, k: usize) -> Printing {
     if let Set::States = set {
         return crate::states::state(k);
     }
-    let mut input = [0u8; 8192];
-    let all = append_input(&mut input, set, k);
-    let end = kept(set, k, all);
-    Printing::start(&input[..end])
-}
-
-// One of three numbers, for k below a first place, below a second, or from there on.
-fn by_place(k: usize, first: usize, a: usize, second: usize, b: usize, c: usize) -> usize {
-    if k < first {
-        return a;
-    }
-    if k < second { b } else { c }
-}
-
-// The refusal's number and place, as `drawers::refused` has them; 0 where there is none. 217 bytes behind the example and a limit of 223 make
-// 256 bytes.
-fn refused(set: Set, k: usize) -> usize {
+    let mut input = Text::new();
+    add_input(&mut input, set, k);
+    let all = input.as_slice();
     match set {
-        Set::Cut => by_place(k, 26, 1001, 39, 1002, 0),
-        Set::Name => 1001,
-        Set::Behind => by_place(k, 1, 0, 218, 1003, 1001),
-        Set::Limit => {
-            if k == 6 {
-                return 0;
-            }
-            by_place(k, 1, 1002, 224, 400, 1001)
-        }
-        Set::States => by_place(k, 3, 2200, 3, 0, 0),
-        _ => crate::drawers::refused(case(set, k)),
+        Set::Cut => Printing::start(cases::part(all, 0, k)),
+        _ => Printing::start(all),
+    }
+}
+
+// The refusal's number and place. 217 bytes behind the example and a limit of 223 make 256 bytes.
+fn refused(set: Set, k: usize) -> Option<(usize, usize)> {
+    match set {
+        Set::Cut => match k {
+            0..=25 => Some((10, 1)),
+            26..=38 => Some((10, 2)),
+            _ => None,
+        },
+        Set::Name => Some((10, 1)),
+        Set::Behind => match k {
+            0 => None,
+            1..=217 => Some((10, 3)),
+            _ => Some((10, 1)),
+        },
+        Set::Limit => match k {
+            0 => Some((10, 2)),
+            6 => None,
+            1..=223 => Some((4, 0)),
+            _ => Some((10, 1)),
+        },
+        Set::States => if k < 3 { Some((22, 0)) } else { None },
+        _ => case(set, k).refused(),
     }
 }
 
 // The text that is due.
-fn append_due(text: &mut [u8], set: Set, k: usize) -> usize
-    requires { 8192 ≡ length text.old }
-    ensures { (result ≤ 8192) × (8192 ≡ length text.new) }
-{
-    let why = refused(set, k);
-    if why != 0 {
-        return crate::plain::append_refusal(text, why / 100, why % 100);
+fn add_due(text: &mut Text, set: Set, k: usize) {
+    if let Some((number, place)) = refused(set, k) {
+        return plain::add_refusal(text, number, place);
     }
     if let Set::States = set {
-        return test_texts::append(text, 0, b"18446744073709551615 0 1 0\nend - - 0\n");
+        return text.append(b"18446744073709551615 0 1 0\nend - - 0\n");
     }
     let case = case(set, k);
-    let kind = (case.kind % 256) as u8;
-    crate::plain::append_drawer(text, case.n, case.d, kind, case.limit)
+    let drawer = Drawer {
+        n: case.n,
+        d: case.d,
+        kind: (case.kind % 256) as u8,
+    };
+    plain::add_drawer(text, drawer, case.limit);
 }
 
-// The lengths of the first and of the last buffer that a text is printed in.
-#[derive(Clone, Copy)]
-struct Rooms {
-    first: usize,
-    last: usize,
-}
-
-fn rooms_of(set: Set, k: usize) -> Rooms
-    ensures { result.last ≤ 4200 }
-{
+fn rooms_of(set: Set, k: usize) -> Rooms {
     let any = 128 + k % 300;
     match set {
         Set::One(_, _, _) => Rooms {
@@ -168,23 +141,16 @@ fn rooms_of(set: Set, k: usize) -> Rooms
 }
 
 fn compare_one(set: Set, k: usize) -> Tally {
-    let mut due = [0u8; 8192];
-    let n = append_due(&mut due, set, k);
-    let rooms = rooms_of(set, k);
-    crate::pieces::compare(start(set, k), &due[..n], rooms.first, rooms.last)
+    let mut due = Text::new();
+    add_due(&mut due, set, k);
+    crate::pieces::compare(start(set, k), due.as_slice(), rooms_of(set, k))
 }
 
 // The texts numbered below a count.
-fn compare(set: Set, count: usize) -> Tally {
-    let mut tally = crate::pieces::nothing();
-    let mut k: usize = 0;
-    while k < count {
-        tally = crate::pieces::sum(tally, compare_one(set, k));
-        k += 1;
-    }
-    tally
-}
-
 pub fn show(name: &[u8], set: Set, count: usize) {
-    crate::pieces::print_tally(name, compare(set, count));
+    let mut tally = Tally::default();
+    for k in 0..count {
+        tally = tally.plus(compare_one(set, k));
+    }
+    tally.print(name);
 }

@@ -25,7 +25,7 @@ pub fn state(i: usize) -> Printing {
     match i {
         0 => amid(65, Standing::Limit, 0),
         1 => amid(1, Standing::Ended, 0),
-        2 => amid(1, Standing::Limit, 18446744073709551615),
-        _ => amid(1, Standing::Limit, 18446744073709551614),
+        2 => amid(1, Standing::Limit, u64::MAX),
+        _ => amid(1, Standing::Limit, u64::MAX - 1),
     }
 }

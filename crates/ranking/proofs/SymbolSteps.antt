@@ -15,29 +15,22 @@ use Rattle.lyndon_below.specs.InnerTables.{Given}
 use Rattle.pascal.specs.Pascal.{last_row}
 use Rattle.ranking.specs.InnerRanks.{Seats}
 use Rattle.refusal.specs.Verdicts.{most_stations}
+use Rattle.std.proofs.lemmas.List.{take-replicate}
 use Rattle.words.proofs.AtMost.{≼_there, ≼_under, ◌≼◌}
 use Rattle.words.proofs.Below.{here, ≺_under, ◌≺◌}
 use Rattle.words.specs.InnerScan.{◌▹◌}
 use Rattle.words.specs.Symbols.{ones}
 
-take-ones : (n m : ℕ) → n ≤ m → take n (ones m) ≡ ones n
-take-ones zero m h = refl
-take-ones (suc n) zero h = absurd (omega arith)
-take-ones (suc n) (suc m) h = ap {B = List ℕ} (λ t. 1 ∷ t) (take-ones n m (omega arith))
-
 -- ---- n ones
-
-pub ones_long : (n : ℕ) → n ≤ last_row → length (take {A = ℕ} n (replicate most_stations 1)) ≡ n
-ones_long n h = ap length (take-ones n most_stations (omega arith)) ∙ length-replicate {A = ℕ} n 1
 
 pub ones_given : (n d : ℕ) → 0 < n → n ≤ last_row → d ≤ n → Given (take n (replicate most_stations 1)) d
 ones_given n d p h k =
-    let e = take-ones n most_stations (omega arith) in
+    let e = take-replicate {X = ℕ} n most_stations 1 (omega arith) in
     rw e (record { some = omega (arith, length-replicate {A = ℕ} n 1); few = omega (arith, length-replicate {A = ℕ} n 1); binary = binary_replicate n 1 (omega arith); dense = omega (arith, length-replicate {A = ℕ} n 1) })
 
 pub ones-rank : (n d kind r : ℕ) → n ≤ last_row → let w = take {A = ℕ} n (replicate most_stations 1) in r ≡ rank (length w) d kind w → r ≡ rank n d kind (ones n)
 ones-rank n d kind r h e =
-    let o = take-ones n most_stations (omega arith) in
+    let o = take-replicate {X = ℕ} n most_stations 1 (omega arith) in
     rw (o, length-replicate {A = ℕ} n 1) at e
 
 -- ---- the first i symbols are those of the ring, and ones stand behind them
@@ -60,7 +53,7 @@ module _ (n d kind s : ℕ) (k : Seats n d kind s) where
   pub fixed_start : Fixed n d kind s (replicate most_stations 1) 0
   fixed_start =
       let e : n - 0 ≡ n = omega arith in
-      record { inside = omega arith; long = length-replicate {A = ℕ} most_stations 1; front = rw (take-ones n most_stations (omega (arith, k.few)), e); rest = necklace_at n d kind s; ring = refl }
+      record { inside = omega arith; long = length-replicate {A = ℕ} most_stations 1; front = rw (take-replicate {X = ℕ} n most_stations 1 (omega (arith, k.few)), e); rest = necklace_at n d kind s; ring = refl }
 
   rest_long : (row : List ℕ) (i : ℕ) (f : Fixed n d kind s row i) → i + length f.rest ≡ n
   rest_long row i f =
@@ -98,9 +91,6 @@ module _ (n d kind s : ℕ) (k : Seats n d kind s) where
     pub tried_long : length (take n (set row i 0)) ≡ n
     tried_long = length-take-le n (set row i 0) (simp length-set (omega (arith, f.long, k.few)))
 
-    pub tried_room : n ≤ length (set row i 0)
-    tried_room = simp length-set (omega (arith, f.long, k.few))
-
     pub tried_given : Given (take n (set row i 0)) d
     tried_given = record {
       some = omega (arith, tried_long);
@@ -113,11 +103,10 @@ module _ (n d kind s : ℕ) (k : Seats n d kind s) where
       tried : r ≡ rank n d kind (a ++ (0 ∷ ones j))
       tried = e ∙ ap (λ m. rank m d kind (take n (set row i 0))) tried_long ∙ ap (rank n d kind) (stored 0)
 
-      fixed_next : (b : ℕ) (z : List ℕ) → f.rest ≡ b ∷ z → Fixed n d kind s (set (set row i 0) i b) (i + 1)
+      fixed_next : (b : ℕ) (z : List ℕ) → f.rest ≡ b ∷ z → Fixed n d kind s (set row i b) (i + 1)
       fixed_next b z q =
-          let again : set (set row i 0) i b ≡ set row i b = set-set row i 0 b in
           let first : take (suc i) (set row i b) ≡ a ▹ b = take-suc-set row i b (omega (arith, f.long, k.few)) in
-          rw (again, add-one i) (record {
+          rw (add-one i) (record {
             inside = omega arith;
             long = simp length-set f.long;
             front = rw first (stored b ∙ sym (append_assoc a (b ∷ []) (ones j)));
@@ -138,19 +127,19 @@ module _ (n d kind s : ℕ) (k : Seats n d kind s) where
           let high : (a ++ (0 ∷ ones j)) ≺ necklace_at n d kind s = subst (λ t. (a ++ (0 ∷ ones j)) ≺ t) (sym (f.ring ∙ ap (λ t. a ++ t) q)) (≺_under a (here (lit< tt))) in
           omega (arith, tried, before_necklace n d kind s k.low k.high (a ++ (0 ∷ ones j)) high)
 
-      pub fixed_low : s ≤ r → Fixed n d kind s (set (set row i 0) i 0) (i + 1)
+      pub fixed_low : s ≤ r → Fixed n d kind s (set row i 0) (i + 1)
       fixed_low h = go f.rest refl (binary_behind a ring_binary)
         where
-          go : (z : List ℕ) → f.rest ≡ z → Binary z → Fixed n d kind s (set (set row i 0) i 0) (i + 1)
+          go : (z : List ℕ) → f.rest ≡ z → Binary z → Fixed n d kind s (set row i 0) (i + 1)
           go [] q b = absurd (omega (arith, rest_long row i f, ap length q))
           go (zero ∷ z) q b = fixed_next 0 z q
           go (suc zero ∷ z) q b = absurd (omega (arith, above z q))
           go (suc (suc x) ∷ z) q b = absurd (omega (arith, (binary_uncons b).0))
 
       pub fixed_high : r < s → Fixed n d kind s (set (set row i 0) i 1) (i + 1)
-      fixed_high h = go f.rest refl (binary_behind a ring_binary)
+      fixed_high h = rw (set-set row i 0 1) (go f.rest refl (binary_behind a ring_binary))
         where
-          go : (z : List ℕ) → f.rest ≡ z → Binary z → Fixed n d kind s (set (set row i 0) i 1) (i + 1)
+          go : (z : List ℕ) → f.rest ≡ z → Binary z → Fixed n d kind s (set row i 1) (i + 1)
           go [] q b = absurd (omega (arith, rest_long row i f, ap length q))
           go (zero ∷ z) q b = absurd (omega (arith, at_most z q))
           go (suc zero ∷ z) q b = fixed_next 1 z q

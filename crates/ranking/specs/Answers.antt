@@ -1,10 +1,7 @@
--- "Seat numbers": what the rank of a row and the ring of a rank refuse and give.
+-- "Seat numbers": what the rank of a row and the ring of a rank refuse.
 use Rattle.std.specs.Prelude.{Bool, List, ℕ, leb}
 use Rattle.density.specs.Drawers.{drawer_needs, row_needs}
 use Rattle.density.specs.Ranks.{ring_count}
-use Rattle.ranking.specs.declared.Seat.{Seat}
-use Rattle.ranking.specs.declared.Seated.{Seated}
-use Rattle.refusal.specs.Outcomes.{Outcome, given, refused}
 use Rattle.refusal.specs.Verdicts.{Verdict, accepted, need, one_to}
 use Rattle.refusal.specs.declared.Refusal.TheVariants as refusals
 
@@ -16,19 +13,10 @@ is_counted kind = one_to 2 kind
 unfoldable pub rank_verdict : ℕ → ℕ → ℕ → List ℕ → Verdict
 rank_verdict n d kind row = drawer_needs n d (is_counted kind) (row_needs n row)
 
--- "Giving a ring from its seat checks 1, 2, 5, 9"; "13, seat 0 or above the total, after all others". For a buffer of that many bytes.
+-- "Giving a ring from its seat checks 1, 2, 5, 9"; "13, seat 0 or above the total, after all others". For a buffer of
+-- that many bytes.
 unfoldable pub unrank_verdict : ℕ → ℕ → ℕ → ℕ → ℕ → Verdict
 unrank_verdict n d kind seat room =
     drawer_needs n d (is_counted kind)
     (need (leb n room) refusals.Buffer
     (need (one_to (ring_count n d kind) seat) refusals.Seat accepted))
-
--- document 01's number and value for each answer
-abbrev pub rank_outcome : Seat → Outcome ℕ
-rank_outcome (Seat.Number x) = given x
-rank_outcome (Seat.Refused r) = refused r
-
--- no value is returned beside the ring
-abbrev pub unrank_outcome : Seated → Outcome Unit
-unrank_outcome Seated.Written = given tt
-unrank_outcome (Seated.Refused r) = refused r

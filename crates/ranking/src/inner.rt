@@ -1,26 +1,20 @@
-// Ranks by counting: necklaces by the Lyndon words that they repeat, and these by the rows of their length. Nothing is walked.
-ghost use Rattle.std.specs.Prelude.{true, ◌≡◌, suc, length, take};
-ghost use Rattle.density.specs.Ranks.{necklace_at, rank};
+// Ranks by counting: necklaces by the Lyndon words that they repeat, and these by the rows of their length. Nothing is
+// walked.
+ghost use Rattle.std.specs.Prelude.{true, ◌≡◌, length, take};
+ghost use Rattle.density.specs.Ranks.{necklace_at, rank, ring_count};
 ghost use Rattle.lyndon_below.specs.InnerTables.{Given};
-ghost use Rattle.pascal.specs.Pascal.{last_row, triangle};
 ghost use Rattle.ranking.specs.Answers.{is_counted};
-ghost use Rattle.ranking.specs.InnerRanks.{Seats};
-ghost use Rattle.rows_above.specs.InnerTables.{table_size};
+ghost use Rattle.ranking.specs.InnerRanks.{Counted, Seats};
 
-// The rank of a row, of kind 1 or 2. The tables are lent: the ways to choose, and one in which what it holds does not matter.
-pub fn rank_with(
-    ways: &[u64; pascal::ENTRIES],
-    table: &mut [u64; rows_above::TABLE_SIZE],
-    w: &[u8],
-    d: usize,
-    kind: u8,
-) -> u64
-    requires { (ways.now ≡ triangle (suc last_row)) × Given w.now d × (is_counted kind ≡ true) × (length table.old ≡ table_size) }
-    ensures long { length table.new ≡ table_size }
-    ensures value { result ≡ rank (length w.now) d kind w.now }
+use lyndon_below::tables::Tables;
+
+// The rank of a row, of kind 1 or 2.
+pub fn rank_with(tables: &mut Tables<'_>, w: &[u8], d: usize, kind: u8) -> u64
+    requires { Given w.now d × (is_counted kind ≡ true) }
+    ensures { result ≡ rank (length w.now) d kind w.now }
 {
     let n = w.len();
-    let words = lyndon_below::count_all(ways, table, w, d);
+    let words = lyndon_below::count_all(tables, w, d);
     if kind == 1 {
         return lyndon_below::common_sum(&words, n, d);
     }
@@ -33,33 +27,41 @@ pub fn rank_of(w: &[u8], d: usize, kind: u8) -> u64
     ensures { result ≡ rank (length w.now) d kind w.now }
 {
     let ways = pascal::triangle();
-    let mut table = [0u64; rows_above::TABLE_SIZE];
-    rank_with(&ways, &mut table, w, d, kind)
+    let mut blocks = [0u64; rows_above::TABLE_SIZE];
+    let mut tables = Tables {
+        ways: &ways,
+        blocks: &mut blocks,
+    };
+    rank_with(&mut tables, w, d, kind)
+}
+
+// How many rings a drawer has, of kind 1 or 2: the rank of its highest row, of ones.
+pub fn total(tables: &mut Tables<'_>, n: usize, d: usize, kind: u8) -> u64
+    requires { Counted n d kind }
+    ensures { result ≡ ring_count n d kind }
+{
+    let ones = [1u8; refusal::MOST_STATIONS];
+    rank_with(tables, &ones[..n], d, kind)
 }
 
 // The ring at a seat: the least row whose rank is not below it, its symbols fixed one by one.
 pub fn necklace_at(
-    ways: &[u64; pascal::ENTRIES],
-    table: &mut [u64; rows_above::TABLE_SIZE],
+    tables: &mut Tables<'_>,
     n: usize,
     d: usize,
     kind: u8,
     seat: u64,
 ) -> [u8; refusal::MOST_STATIONS]
-    requires { (ways.now ≡ triangle (suc last_row)) × Seats n d kind seat × (length table.old ≡ table_size) }
+    requires { Seats n d kind seat }
     ensures { take n result ≡ necklace_at n d kind seat }
 {
     let mut row = [1u8; refusal::MOST_STATIONS];
-    let mut i: usize = 0;
-    while i < n {
+    for i in 0..n {
         row[i] = 0;
-        let rank = rank_with(ways, table, &row[..n], d, kind);
-        let mut symbol: u8 = 0;
+        let rank = rank_with(tables, &row[..n], d, kind);
         if rank < seat {
-            symbol = 1;
+            row[i] = 1;
         }
-        row[i] = symbol;
-        i += 1;
     }
     row
 }

@@ -1,34 +1,19 @@
-// The two operations, asked: answers as numbers, and buffers.
-ghost use Rattle.std.specs.Prelude.{◌≤◌};
+// The two operations, asked of a drawer.
+use refusal::Refusal;
+use test_rows::{Drawer, cases};
 
-use ranking::{Seat, Seated};
-use test_rows::cases;
-
-// What stands for a seat where none is given.
-pub const NO_SEAT: u64 = 18446744073709551615;
-
-pub fn seat_of(n: usize, d: usize, kind: u8, row: &[u8]) -> u64 {
-    let seat = ranking::rank(n, d, kind, row);
-    match seat {
-        Seat::Number(x) => x,
-        Seat::Refused(_) => NO_SEAT,
-    }
+pub fn seat_of(drawer: Drawer, row: &[u8]) -> Result<u64, Refusal> {
+    ranking::rank(drawer.n, drawer.d, drawer.kind, row)
 }
 
-// The seat of n ones.
-pub fn total(n: usize, d: usize, kind: u8) -> u64 {
+// The seat of n ones; where there is none, the highest number.
+pub fn total(drawer: Drawer) -> u64 {
     let ones = [1u8; refusal::MOST_STATIONS];
-    seat_of(n, d, kind, cases::part(&ones, 0, n))
-}
-
-fn shorter(room: usize, length: usize) -> usize
-    ensures { result ≤ length }
-{
-    if room < length { room } else { length }
+    seat_of(drawer, cases::part(&ones, 0, drawer.n)).unwrap_or(u64::MAX)
 }
 
 // Asks for the ring at a seat, with a part of the buffer lent, or all of it where it is shorter.
-pub fn ring_at(n: usize, d: usize, kind: u8, seat: u64, room: usize, out: &mut [u8]) -> Seated {
-    let lent = shorter(room, out.len());
-    ranking::unrank(n, d, kind, seat, &mut out[..lent])
+pub fn ring_at(drawer: Drawer, seat: u64, room: usize, out: &mut [u8]) -> Result<(), Refusal> {
+    let lent = room.min(out.len());
+    ranking::unrank(drawer.n, drawer.d, drawer.kind, seat, &mut out[..lent])
 }

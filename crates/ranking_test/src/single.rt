@@ -1,15 +1,13 @@
-// Seats of single rows, and rings at single seats: short and longest rows, and the refusals in their order. A case is the line that is
-// printed, up to the answer.
+// Seats of single rows, and rings at single seats: short and longest rows, and the refusals in their order. A case is
+// the line that is printed, up to the answer.
 use crate::asked;
-use ranking::{Seat, Seated};
-use test_rows::{FRESH, cases};
+use test_rows::{Drawer, FRESH, cases};
 
-fn show_seat(n: usize, d: usize, kind: u8, digits: &[u8]) {
+fn show_seat(drawer: Drawer, digits: &[u8]) {
     let row = cases::symbols(digits);
-    let seat = ranking::rank(n, d, kind, cases::part(&row, 0, digits.len()));
-    match seat {
-        Seat::Number(x) => test_rows::print_named(b"", x as usize),
-        Seat::Refused(r) => test_rows::print_refusal(r),
+    match asked::seat_of(drawer, cases::part(&row, 0, digits.len())) {
+        Ok(seat) => test_rows::print_named(b"", seat as usize),
+        Err(r) => test_rows::print_refusal(r),
     }
     io::write_all(1, b"\n");
 }
@@ -17,33 +15,28 @@ fn show_seat(n: usize, d: usize, kind: u8, digits: &[u8]) {
 // A seat in digits, or `most`, the highest number.
 fn seat_number(digits: &[u8]) -> u64 {
     if cases::first_byte(digits) == b'm' {
-        return asked::NO_SEAT;
+        return u64::MAX;
     }
     let mut seat: u64 = 0;
-    let mut i: usize = 0;
-    while i < digits.len() {
-        seat = seat % 1000000000000000000 * 10 + test_rows::wide(digits[i] % 16) as u64;
-        i += 1;
+    for digit in digits {
+        seat = seat % 1000000000000000000 * 10 + u64::from(digit % 16);
     }
     seat
 }
 
 // The ring that was written, and its seat.
-fn print_ring(n: usize, d: usize, kind: u8, out: &[u8; 80]) {
-    test_rows::print_row(n, out);
-    test_rows::print_named(
-        b" seat ",
-        asked::seat_of(n, d, kind, cases::part(out, 0, n)) as usize,
-    );
+fn print_ring(drawer: Drawer, out: &[u8; 80]) {
+    let seat = asked::seat_of(drawer, cases::part(out, 0, drawer.n));
+    test_rows::print_row(drawer.n, out);
+    test_rows::print_named(b" seat ", seat.unwrap_or(u64::MAX) as usize);
 }
 
 // The ring at a seat, with a buffer of 80 bytes, of which some are lent.
-fn show_ring(n: usize, d: usize, kind: u8, seat: u64, room: usize) {
+fn show_ring(drawer: Drawer, seat: u64, room: usize) {
     let mut out = [FRESH; 80];
-    let seated = asked::ring_at(n, d, kind, seat, room, &mut out);
-    match seated {
-        Seated::Written => print_ring(n, d, kind, &out),
-        Seated::Refused(r) => test_rows::print_refusal(r),
+    match asked::ring_at(drawer, seat, room, &mut out) {
+        Ok(_) => print_ring(drawer, &out),
+        Err(r) => test_rows::print_refusal(r),
     }
     test_rows::print_as_before(test_rows::count_fresh(&out));
 }
@@ -51,27 +44,16 @@ fn show_ring(n: usize, d: usize, kind: u8, seat: u64, room: usize) {
 fn show(line: &[u8]) {
     io::write_all(1, line);
     io::write_all(1, b": ");
-    let n = cases::number(line, 1);
-    let d = cases::number(line, 2);
-    let kind = cases::number_to(line, 3, 255) as u8;
+    let drawer = cases::drawer(line, 1);
     if cases::first_byte(line) == b's' {
-        return show_seat(n, d, kind, cases::word(line, 4));
+        return show_seat(drawer, cases::word(line, 4));
     }
     let seat = seat_number(cases::word(line, 5));
-    show_ring(n, d, kind, seat, cases::number(line, 7));
-}
-
-fn show_lines(text: &[u8]) {
-    let lines = test_rows::count(text, b'\n');
-    let mut i: usize = 0;
-    while i < lines {
-        show(cases::piece(text, b'\n', i));
-        i += 1;
-    }
+    show_ring(drawer, seat, cases::number(line, 7));
 }
 
 pub fn show_all() {
-    show_lines(
+    cases::each(
         b"seat 6 3 1 010101\n\
           seat 6 3 2 010101\n\
           seat 6 3 1 000110\n\
@@ -139,5 +121,7 @@ pub fn show_all() {
           ring 64 32 2 seat 28634752192836097 buffer 80\n\
           ring 64 32 2 seat most buffer 80\n\
           ring 64 0 2 seat 1 buffer 80\n",
+        b'\n',
+        show,
     );
 }

@@ -1,34 +1,28 @@
--- What an operation comes to: it is refused, or something is given.
-use Rattle.std.specs.Prelude.{List, ◌≡◌, ℕ}
+-- What an operation comes to, in document 01's terms: it is refused, or something is given.
+use Rattle.std.specs.Prelude.{List, Result, Ok, Err, ◌≡◌, ℕ}
 use Rattle.refusal.specs.Refusals.{number_of, place_of}
 use Rattle.refusal.specs.Verdicts.{Verdict, accepted}
 use Rattle.refusal.specs.declared.Refusal.{Refusal}
 use Rattle.words.specs.Buffers.{fronted}
 
--- An answer in document 01's terms. Each operation tells the outcome of each case of its answer, one for each, so that the
--- outcome fixes the answer.
-pub data Outcome (A : Type 0) : Type 0 where
-  given : A → Outcome A
-  refused : Refusal → Outcome A
-
 -- what the verdict refuses, and what is given else
-abbrev pub decide : {A : Type 0} → Verdict → A → Outcome A
-decide accepted a = given a
-decide (Verdict.refused r) a = Outcome.refused r
+abbrev pub decide : {A : Type 0} → Verdict → A → Result A Refusal
+decide accepted a = Ok a
+decide (Verdict.refused r) a = Err r
 
 -- "A refusal is a number and a place (0 unless named)": 0 where nothing is refused
-abbrev pub number_in : {A : Type 0} → Outcome A → ℕ
-number_in (given a) = 0
-number_in (Outcome.refused r) = number_of r
+abbrev pub number_in : {A : Type 0} → Result A Refusal → ℕ
+number_in (Ok a) = 0
+number_in (Err r) = number_of r
 
-abbrev pub place_in : {A : Type 0} → Outcome A → ℕ
-place_in (given a) = 0
-place_in (Outcome.refused r) = place_of r
+abbrev pub place_in : {A : Type 0} → Result A Refusal → ℕ
+place_in (Ok a) = 0
+place_in (Err r) = place_of r
 
 -- "Any other number returned beside it is 0": what is given, and `zero` beside a refusal
-abbrev pub value_in : {A : Type 0} → A → Outcome A → A
-value_in zero (given a) = a
-value_in zero (Outcome.refused r) = zero
+abbrev pub value_in : {A : Type 0} → A → Result A Refusal → A
+value_in zero (Ok a) = a
+value_in zero (Err r) = zero
 
 -- what a refused operation tells: its refusal's number and place, and 0 for all else
 abbrev pub RefusedNumbers : Type 1

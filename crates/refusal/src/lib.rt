@@ -8,7 +8,7 @@ ghost use Rattle.refusal.specs.Verdicts.{are_stations};
 // The most stations of a row.
 pub const MOST_STATIONS: usize = 64;
 
-#[derive(Clone, Copy)]
+#[derive(Clone, Copy, PartialEq, Eq)]
 pub enum Refusal {
     // stations not 1 to 64
     Stations,
@@ -55,48 +55,39 @@ pub fn are_stations(n: usize) -> bool
     1 <= n && n <= MOST_STATIONS
 }
 
-// A refusal's number and place.
-#[derive(Clone, Copy)]
-struct Told(u8, usize);
-
-// What is told of each refusal: its place is 0 unless it names one.
-fn tell(r: Refusal) -> Told
-    ensures { (result.0 ≡ number_of r) × (result.1 ≡ place_of r) }
-{
-    match r {
-        Refusal::Stations => Told(1, 0),
-        Refusal::Holes => Told(2, 0),
-        Refusal::Symbol(p) => Told(3, p),
-        Refusal::Limit => Told(4, 0),
-        Refusal::Kind => Told(5, 0),
-        Refusal::Prefix => Told(6, 0),
-        Refusal::PitchSum => Told(7, 0),
-        Refusal::LastPlain => Told(8, 0),
-        Refusal::Buffer => Told(9, 0),
-        Refusal::Text(line) => Told(10, line),
-        Refusal::ZeroPitch(p) => Told(11, p),
-        Refusal::Name => Told(12, 0),
-        Refusal::Seat => Told(13, 0),
-        Refusal::Ended => Told(20, 0),
-        Refusal::Spent => Told(21, 0),
-        Refusal::Unfit => Told(22, 0),
-        Refusal::NothingPut => Told(23, 0),
-        Refusal::NotOffered => Told(24, 0),
-    }
-}
-
 // The refusal's number.
 pub fn number(r: Refusal) -> u8
     ensures { result ≡ number_of r }
 {
-    let t = tell(r);
-    t.0
+    match r {
+        Refusal::Stations => 1,
+        Refusal::Holes => 2,
+        Refusal::Symbol(_) => 3,
+        Refusal::Limit => 4,
+        Refusal::Kind => 5,
+        Refusal::Prefix => 6,
+        Refusal::PitchSum => 7,
+        Refusal::LastPlain => 8,
+        Refusal::Buffer => 9,
+        Refusal::Text(_) => 10,
+        Refusal::ZeroPitch(_) => 11,
+        Refusal::Name => 12,
+        Refusal::Seat => 13,
+        Refusal::Ended => 20,
+        Refusal::Spent => 21,
+        Refusal::Unfit => 22,
+        Refusal::NothingPut => 23,
+        Refusal::NotOffered => 24,
+    }
 }
 
 // The refusal's place, 0 unless it names one.
 pub fn place(r: Refusal) -> usize
     ensures { result ≡ place_of r }
 {
-    let t = tell(r);
-    t.1
+    match r {
+        Refusal::Symbol(p) | Refusal::ZeroPitch(p) => p,
+        Refusal::Text(line) => line,
+        _ => 0,
+    }
 }

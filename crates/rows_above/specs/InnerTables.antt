@@ -1,5 +1,5 @@
--- A table of sequences of blocks: 65 places for each number of ones, one for each number of zeros. Not of document 01: what inner
--- functions are given and keep.
+-- A table of sequences of blocks: 65 places for each number of ones, one for each number of zeros. Not of document 01:
+-- what inner functions are given and keep.
 use Rattle.std.specs.Prelude.{List, ◌≡◌, ℕ, ◌*◌, ◌+◌, ◌<◌, ◌^◌, ◌≤◌, get_or, length}
 use Rattle.counting.proofs.Prenecklaces.{Prenecklace}
 use Rattle.counting.specs.InnerBlocks.{chains}

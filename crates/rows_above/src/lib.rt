@@ -1,4 +1,5 @@
-// The rows all of whose rotations are above a row that begins a necklace, counted by blocks: the row cut before a 0, and a 1 behind it.
+// The rows all of whose rotations are above a row that begins a necklace, counted by blocks: the row cut before a 0,
+// and a 1 behind it.
 #![tactic(auto)]
 
 ghost use Rattle.std.specs.Prelude.{◌≡◌, ◌+◌, ◌-◌, ◌≤◌, ◌<◌, length};
@@ -16,11 +17,7 @@ fn clear(t: &mut [u64; TABLE_SIZE], to: usize, k: usize)
     requires { (length t.old ≡ table_size) × (to + k ≤ table_size) }
     ensures { Cleared t.old t.new to k }
 {
-    let mut j: usize = 0;
-    while j < k {
-        t[to + j] = 0;
-        j += 1;
-    }
+    t[to..to + k].fill(0);
 }
 
 // Adds k entries to k others behind them. The loop runs on vectors.
@@ -28,10 +25,8 @@ fn add(t: &mut [u64; TABLE_SIZE], to: usize, from: usize, k: usize)
     requires { (length t.old ≡ table_size) × (to + k ≤ table_size) × (from + k ≤ to) × SumsFit t.old to from k }
     ensures { Added t.old t.new to from k }
 {
-    let mut j: usize = 0;
-    while j < k {
+    for j in 0..k {
         t[to + j] += t[from + j];
-        j += 1;
     }
 }
 
@@ -41,6 +36,7 @@ fn fill_row(t: &mut [u64; TABLE_SIZE], v: &[u8], g: usize, zeros: usize)
     ensures { (length t.new ≡ table_size) × Filled v.now t.new (g + 1) zeros }
 {
     clear(t, g * WIDTH, zeros + 1);
+    // a `while`: the two counts share the steps, and either may end them
     let mut ones: usize = 0;
     let mut passed: usize = 0;
     while ones < g && passed <= zeros {
@@ -66,9 +62,11 @@ fn above_from(t: &[u64; TABLE_SIZE], v: &[u8], e: usize) -> u64
     let mut sum: u64 = 0;
     let mut ones = e;
     let mut zeros = v.len() - e;
+    // a `while`: it ends with the ones, and a `for` over v would need the same test within
     let mut s: usize = 0;
     while 0 < ones {
         if v[s] == 0 {
+            // `as`: no `From` makes a u64 of a usize
             sum += (s as u64 + 1) * t[(ones - 1) * WIDTH + zeros];
             if zeros == 0 {
                 return sum;
@@ -82,7 +80,8 @@ fn above_from(t: &[u64; TABLE_SIZE], v: &[u8], e: usize) -> u64
     sum
 }
 
-// The rows of as many symbols as v, of density e, all of whose rotations are above v. The table is lent: what it holds does not matter.
+// The rows of as many symbols as v, of density e, all of whose rotations are above v. The table is lent: what it holds
+// does not matter.
 pub fn count_above(t: &mut [u64; TABLE_SIZE], v: &[u8], e: usize) -> u64
     requires { Opening v.now × (e ≤ length v.now) × (length t.old ≡ table_size) }
     ensures { (result ≡ rows_above v.now e) × (length t.new ≡ table_size) }
@@ -90,10 +89,8 @@ pub fn count_above(t: &mut [u64; TABLE_SIZE], v: &[u8], e: usize) -> u64
     let zeros = v.len() - e;
     clear(t, 0, zeros + 1);
     t[0] = 1;
-    let mut g: usize = 1;
-    while g < e {
+    for g in 1..e {
         fill_row(t, v, g, zeros);
-        g += 1;
     }
     above_from(&*t, v, e)
 }

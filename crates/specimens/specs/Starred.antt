@@ -9,8 +9,8 @@ use Rattle.words.specs.Pairs.{pairs}
 use Rattle.words.specs.Reversal.{turned_key}
 use Rattle.words.specs.Rotation.{least_rotation, least_index, period}
 use Rattle.words.specs.Symbols.{ones, zeros}
-use Rattle.words.specs.declared.Order.{Order}
-use Rattle.words.specs.declared.Order.TheVariants.{Higher, Lower}
+use Rattle.std.specs.declared.cmp.Ordering.{Ordering}
+use Rattle.std.specs.declared.cmp.Ordering.TheVariants.{Greater, Less}
 use Rattle.density.specs.Lengths.{HowMany, at_most, drawer_length, exactly}
 use Rattle.density.specs.Necklaces.{begins, largest_necklace}
 use Rattle.density.specs.Ranks.{necklace_at, rank}
@@ -19,8 +19,8 @@ use Rattle.listing.specs.Listing.{Line, ring, none, refused, says, told}
 use Rattle.listing.specs.Places.{Placed, placed}
 use Rattle.mixed_calls.specs.Calls.{Call, at_first, call_answers, fetches, looks, opens, puts, steps, takes}
 use Rattle.offers.specs.declared.Offer.{Offer}
-use Rattle.offers.specs.declared.Offered.{Offered}
-use Rattle.offers.specs.declared.Offered.TheVariants.{None, Ring}
+use Rattle.walk.specs.declared.Answer.{Answer}
+use Rattle.walk.specs.declared.Answer.TheVariants.{None, Ring}
 use Rattle.pitches.specs.Pitches.{pitches_of_row}
 use Rattle.walk.specs.Moves.{rules}
 use Rattle.walk.specs.Opening.{open_verdict, open_walk}
@@ -55,7 +55,7 @@ pub data Specimen : Type 0 where
   -- pitches of a row
   pitches : List ℕ → List ℕ → Specimen
   -- two rows: their order, the place where they first differ, and the pairs compared
-  compared : List ℕ → List ℕ → Order → ℕ → ℕ → Specimen
+  compared : List ℕ → List ℕ → Ordering → ℕ → ℕ → Specimen
   -- turned-over key of a row
   turned : List ℕ → List ℕ → Specimen
   -- two rows: how the first fits the second, and the signed turn
@@ -80,7 +80,7 @@ standing n d kind s =
     record { n = n; d = d; kind = kind; row = s.row ++ behind; at = s.at; kept = s.kept ++ behind }
 
 -- an offer of (n, d) and a kind: a ring or none, the allowance, and where the walk would stand
-abbrev pub offer : ℕ → ℕ → ℕ → Offered → ℕ → Stand → Offer
+abbrev pub offer : ℕ → ℕ → ℕ → Answer → ℕ → Stand → Offer
 offer n d kind x a s = record { offered = x; allowance = a; walk = standing n d kind s }
 
 -- the records that some steps hand back
@@ -120,9 +120,9 @@ starred =
     ∷ prefix 4 3 (row "0") true
     ∷ top 8 3 (row "00100101")
     ∷ top 8 5 (row "01011011")
-    ∷ compared (row "01") (row "010") Lower 3 2
-    ∷ compared (zeros 19) (zeros 9 ++ ones 10) Lower 10 2
-    ∷ compared (zeros 19) (zeros 18) Higher 19 4
+    ∷ compared (row "01") (row "010") Less 3 2
+    ∷ compared (zeros 19) (zeros 9 ++ ones 10) Less 10 2
+    ∷ compared (zeros 19) (zeros 18) Greater 19 4
     ∷ turned (row "001101") (row "001011")
     ∷ fits (row "001011") (row "101100") turning (pos 2)
     ∷ fits (row "101100") (row "001011") turning (neg_ℤ (pos 2))

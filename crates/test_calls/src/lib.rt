@@ -1,133 +1,44 @@
-// For the test programs: what steps, looks and takes say and leave, what is due, and what differs.
+// For the test programs: what steps, looks and takes are due to say and leave, and what differs.
 #![tactic(auto)]
 
-use offers::{Offer, Offered};
-use walk::Walk;
+ghost use Rattle.std.specs.Prelude.{◌<◌};
 
-// What is said and handed back: a ring 0, none 1, or the refusal's number.
-#[derive(Clone, Copy)]
-pub struct Told {
-    pub walk: Walk,
-    pub said: u8,
-    pub place: usize,
-    pub trials: usize,
-}
-
-// What a look says and hands back, and its offer.
-#[derive(Clone, Copy)]
-pub struct Seen {
-    pub told: Told,
-    pub offer: Offer,
-}
-
-pub fn step(before: Walk, allowance: u64) -> Told {
-    let stepped = before.step(allowance);
-    let answer = stepped.answer;
-    let walk = stepped.walk;
-    Told {
-        walk,
-        said: test_walks::answer_number(answer),
-        place: stepped.place,
-        trials: stepped.trials as usize,
-    }
-}
-
-pub fn look(before: Walk, allowance: u64) -> Seen {
-    let looked = offers::look(before, allowance);
-    let answer = looked.answer;
-    let walk = looked.walk;
-    let told = Told {
-        walk,
-        said: test_walks::answer_number(answer),
-        place: looked.place,
-        trials: looked.trials as usize,
-    };
-    let offer = looked.offer;
-    Seen { told, offer }
-}
-
-pub fn take(before: Walk, offer: Offer) -> Told {
-    let taken = offers::take(before, offer);
-    let answer = taken.answer;
-    let walk = taken.walk;
-    Told {
-        walk,
-        said: test_walks::answer_number(answer),
-        place: taken.place,
-        trials: taken.trials as usize,
-    }
-}
+use offers::{Looked, Offer};
+use refusal::Refusal;
+use walk::{Answer, Stepped, Walk};
 
 // ---- the same
 
-// Field by field, and rows byte by byte: plain search, which the library's `same_walk` is compared with too.
+// Field by field: plain search, which the library's `same_walk` is compared with too. So it isn't the derived equality
+// that that one uses.
 pub fn same_walk(walk: Walk, other: Walk) -> bool {
-    let at = walk.at;
-    let other_at = other.at;
-    let row = walk.row;
-    let other_row = other.row;
-    let kept = walk.kept;
-    let other_kept = other.kept;
-    if !test_walks::same_row(&kept, &other_kept) {
-        return false;
-    }
-    if !test_walks::same_row(&row, &other_row) {
-        return false;
-    }
-    if walk.n != other.n {
-        return false;
-    }
-    if walk.d != other.d {
-        return false;
-    }
-    if walk.kind != other.kind {
-        return false;
-    }
-    if walk_records::standing_number(at) != walk_records::standing_number(other_at) {
-        return false;
-    }
-    walk_records::standing_place(at) == walk_records::standing_place(other_at)
-}
-
-// A ring 0, none 1, as steps say it.
-pub fn offered_number(offered: Offered) -> u8 {
-    match offered {
-        Offered::Ring => 0,
-        Offered::None => 1,
-    }
+    walk.row.iter().eq(&other.row)
+        && walk.kept.iter().eq(&other.kept)
+        && walk.n == other.n
+        && walk.d == other.d
+        && walk.kind == other.kind
+        && walk_records::standing_number(walk.at) == walk_records::standing_number(other.at)
+        && walk_records::standing_place(walk.at) == walk_records::standing_place(other.at)
 }
 
 pub fn same_offer(offer: Offer, other: Offer) -> bool {
-    let offered = offer.offered;
-    let other_offered = other.offered;
-    if !same_walk(offer.walk, other.walk) {
-        return false;
-    }
-    if offered_number(offered) != offered_number(other_offered) {
-        return false;
-    }
-    offer.allowance == other.allowance
+    same_walk(offer.walk, other.walk)
+        && offer.offered == other.offered
+        && offer.allowance == other.allowance
 }
 
 // ---- what is due
 
 // The offer of a look, of what a step with the allowance says and hands back.
-pub fn offer_due(stepped: Told, allowance: u64) -> Offer {
-    let walk = stepped.walk;
-    let said = stepped.said;
-    match said {
-        0 => Offer {
-            offered: Offered::Ring,
+pub fn offer_due(stepped: Stepped, allowance: u64) -> Offer {
+    match stepped.answer {
+        Ok(offered) => Offer {
+            offered,
             allowance,
-            walk,
+            walk: stepped.walk,
         },
-        1 => Offer {
-            offered: Offered::None,
-            allowance,
-            walk,
-        },
-        _ => Offer {
-            offered: Offered::None,
+        Err(_) => Offer {
+            offered: Answer::None,
             allowance: 0,
             walk: Walk::refused(),
         },
@@ -135,45 +46,134 @@ pub fn offer_due(stepped: Told, allowance: u64) -> Offer {
 }
 
 // A refusal that leaves the walk.
-fn unmoved(before: Walk, said: u8) -> Told {
-    Told {
+fn unmoved(before: Walk, r: Refusal) -> Stepped {
+    Stepped {
         walk: before,
-        said,
+        answer: Err(r),
         place: 0,
         trials: 0,
     }
 }
 
 // What a take says and leaves, of a step with the offer's allowance: that step, if it gives what was offered.
-pub fn take_due(before: Walk, stepped: Told, is_offered: bool) -> Told {
-    if stepped.said == 22 || stepped.said == 20 {
-        return unmoved(before, stepped.said);
+pub fn take_due(before: Walk, stepped: Stepped, is_offered: bool) -> Stepped {
+    match stepped.answer {
+        Ok(_) if is_offered => stepped,
+        Ok(_) => unmoved(before, Refusal::NotOffered),
+        Err(Refusal::Spent) => unmoved(before, Refusal::NotOffered),
+        Err(r) => unmoved(before, r),
     }
-    if stepped.said == 21 || !is_offered {
-        return unmoved(before, 24);
-    }
-    stepped
 }
 
 // ---- what differs
 
-pub fn differing(told: Told, due: Told) -> usize {
-    test_rows::one_if(told.said != due.said)
-        + test_rows::one_if(told.place != due.place)
-        + test_rows::one_if(told.trials != due.trials)
-        + test_rows::one_if(!same_walk(told.walk, due.walk))
+pub fn differing(told: Stepped, due: Stepped) -> usize {
+    usize::from(told.answer != due.answer)
+        + usize::from(told.place != due.place)
+        + usize::from(told.trials != due.trials)
+        + usize::from(!same_walk(told.walk, due.walk))
+}
+
+// What a look says and hands back, as a step does.
+pub fn told(looked: Looked) -> Stepped {
+    Stepped {
+        walk: looked.walk,
+        answer: looked.answer,
+        place: looked.place,
+        trials: looked.trials,
+    }
 }
 
 // How much of a look is not what a step says, the walk as it was, and the offer of what the step gives.
-pub fn look_differing(before: Walk, allowance: u64, seen: Seen, stepped: Told) -> usize {
-    let offer = seen.offer;
+pub fn look_differing(before: Walk, allowance: u64, looked: Looked, stepped: Stepped) -> usize {
     let due = offer_due(stepped, allowance);
-    let left = Told {
+    let left = Stepped {
         walk: before,
         ..stepped
     };
     test_walks::plus(
-        differing(seen.told, left),
-        test_rows::one_if(!same_offer(offer, due)),
+        differing(told(looked), left),
+        usize::from(!same_offer(looked.offer, due)),
     )
+}
+
+// ---- what was called, added up
+
+// A call: its trials, its place, the rows handed back and offered, as numbers, and what differs.
+#[derive(Clone, Copy, Default)]
+pub struct Call {
+    pub trials: u64,
+    pub place: usize,
+    pub rows: usize,
+    pub differing: usize,
+}
+
+// Calls by what they say, in so many sorts, and the sums of what they tell. No number goes above a billion.
+#[derive(Clone, Copy)]
+pub struct Counts<const N: usize> {
+    pub answers: [usize; N],
+    pub trials: usize,
+    pub places: usize,
+    pub rows: usize,
+    pub differing: usize,
+}
+
+impl Call {
+    // What a step, a look or a take tells.
+    pub fn told(told: Stepped, differing: usize) -> Call {
+        Call {
+            trials: told.trials,
+            place: told.place,
+            rows: test_walks::rows_of(told.walk),
+            differing,
+        }
+    }
+
+    // The same of a look, whose offer has rows too.
+    pub fn looked(looked: Looked, differing: usize) -> Call {
+        let call = Call::told(told(looked), differing);
+        let offered = test_walks::rows_of(looked.offer.walk);
+        Call {
+            rows: test_walks::plus(call.rows, offered),
+            ..call
+        }
+    }
+}
+
+impl<const N: usize> Counts<N> {
+    pub fn new() -> Counts<N> {
+        Counts {
+            answers: [0; N],
+            trials: 0,
+            places: 0,
+            rows: 0,
+            differing: 0,
+        }
+    }
+
+    // One call more, of a sort.
+    pub fn with(self, sort: usize, call: Call) -> Counts<N>
+        requires { sort < N }
+    {
+        let mut answers = self.answers;
+        answers[sort] = test_walks::plus(answers[sort], 1);
+        Counts {
+            answers,
+            trials: test_walks::plus(self.trials, call.trials as usize),
+            places: test_walks::plus(self.places, call.place),
+            rows: test_walks::plus(self.rows, call.rows),
+            differing: test_walks::plus(self.differing, call.differing),
+        }
+    }
+
+    // The end of a line: how many calls say each, and the sums.
+    pub fn print(self, answers: &[u8])
+        requires { N < 100 }
+    {
+        test_rows::print_filled(answers, &self.answers);
+        test_rows::print_filled(
+            b" trials # places # rows # differing #\n",
+            &[self.trials, self.places, self.rows, self.differing],
+        );
+    }
 }

@@ -1,99 +1,83 @@
 // Texts for the test programs: filled in from a form, and compared.
 #![tactic(auto)]
 
-ghost use Rattle.std.specs.Prelude.{◌≡◌, ◌≤◌, length};
+ghost use Rattle.std.specs.Prelude.{◌≤◌};
 
-// A piece behind what a text holds, as far as there is room.
-pub fn append(text: &mut [u8], at: usize, piece: &[u8]) -> usize
-    requires { (at ≤ 8192) × (8192 ≡ length text.old) }
-    ensures { (result ≤ 8192) × (8192 ≡ length text.new) }
-{
-    let mut i = at;
-    let mut k: usize = 0;
-    while k < piece.len() {
-        if 8192 <= i {
-            return i;
+// The most bytes of a text.
+pub const ROOM: usize = 8192;
+
+// A text: the first bytes of an array.
+#[derive(Drop)]
+pub struct Text {
+    pub bytes: [u8; ROOM],
+    pub size: usize,
+    ghost inside: { size ≤ 8192 },
+}
+
+impl Text {
+    pub fn new() -> Text {
+        Text {
+            bytes: [0u8; ROOM],
+            size: 0,
         }
-        text[i] = piece[k];
-        i += 1;
-        k += 1;
     }
-    i
-}
 
-// A number in decimal digits behind what a text holds.
-fn append_number(text: &mut [u8], at: usize, n: usize) -> usize
-    requires { (at ≤ 8192) × (8192 ≡ length text.old) }
-    ensures { (result ≤ 8192) × (8192 ≡ length text.new) }
-{
-    let mut digits = [0u8; 20];
-    let count = io::decimal(n as u64, &mut digits);
-    append(text, at, &digits[..count])
-}
-
-// What stands for a byte of a form: a number for `#`, a piece for `@`, and else the byte itself.
-fn append_for(text: &mut [u8], at: usize, byte: u8, number: usize, piece: &[u8]) -> usize
-    requires { (at ≤ 8192) × (8192 ≡ length text.old) }
-    ensures { (result ≤ 8192) × (8192 ≡ length text.new) }
-{
-    if byte == b'#' {
-        return append_number(text, at, number);
+    pub fn as_slice(&self) -> &[u8] {
+        &self.bytes[..self.size]
     }
-    if byte == b'@' {
-        return append(text, at, piece);
-    }
-    append(text, at, &[byte])
-}
 
-fn number_at(i: usize, a: usize, b: usize, c: usize, d: usize) -> usize {
-    match i {
-        0 => a,
-        1 => b,
-        2 => c,
-        _ => d,
+    // Adds a piece, as far as there is room.
+    pub fn append(&mut self, piece: &[u8]) {
+        let start = self.size;
+        let taken = piece.len().min(ROOM - start);
+        self.bytes[start..start + taken].copy_from_slice(&piece[..taken]);
+        self.size = start + taken;
+    }
+
+    // Adds a number in decimal digits.
+    fn append_number(&mut self, n: usize) {
+        let mut digits = [0u8; 20];
+        let count = io::decimal(n as u64, &mut digits);
+        self.append(&digits[..count]);
+    }
+
+    // Adds a form, with numbers for its `#`, in this order, and a piece for each `@`.
+    pub fn fill(&mut self, form: &[u8], numbers: &[usize], piece: &[u8]) {
+        let mut rest = numbers.iter();
+        for byte in form {
+            match byte {
+                b'#' => self.append_number(rest.next().copied().unwrap_or(0)),
+                b'@' => self.append(piece),
+                _ => self.append(&[*byte]),
+            }
+        }
     }
 }
 
-// A form behind what a text holds, with the numbers a, b, c and d for its `#`, in this order, and a piece for each `@`.
-pub fn fill(
-    text: &mut [u8],
-    at: usize,
-    form: &[u8],
-    a: usize,
-    b: usize,
-    c: usize,
-    d: usize,
-    piece: &[u8],
-) -> usize
-    requires { (at ≤ 8192) × (8192 ≡ length text.old) }
-    ensures { (result ≤ 8192) × (8192 ≡ length text.new) }
-{
-    let mut next = at;
-    let mut k: usize = 0;
-    let mut i: usize = 0;
-    while i < form.len() {
-        let byte = form[i];
-        next = append_for(text, next, byte, number_at(k, a, b, c, d), piece);
-        k += test_rows::one_if(byte == b'#');
-        i += 1;
+impl Text {
+    // Adds an input of the drawer program.
+    pub fn add_input(&mut self, n: usize, d: usize, kind: usize, limit: &[u8]) {
+        self.fill(
+            b"stations holes kind limit\n# # # @\n",
+            &[n, d, kind],
+            limit,
+        );
     }
-    next
 }
 
 // The first bytes of a buffer.
 pub fn print_front(n: usize, buffer: &[u8]) {
-    if n <= buffer.len() {
-        io::write_all(1, &buffer[..n]);
+    if let Some(front) = buffer.get(..n) {
+        io::write_all(1, front);
     }
 }
 
 // Whether the first n bytes of a buffer are a text, and the bytes behind them as they were.
 pub fn holds(buffer: &[u8], n: usize, text: &[u8]) -> bool {
-    if buffer.len() < n {
-        return false;
+    match buffer.split_at_checked(n) {
+        Some((front, behind)) => {
+            front == text && behind.iter().all(|byte| *byte == test_rows::FRESH)
+        }
+        None => false,
     }
-    if !check::same(&buffer[..n], text) {
-        return false;
-    }
-    test_rows::count_fresh(&buffer[n..]) == buffer.len() - n
 }

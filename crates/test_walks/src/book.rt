@@ -1,112 +1,43 @@
-// The drawer's book by a plain listing. A row of n stations is a number, the first symbol its highest binary digit; half is 2 to the n - 1.
-ghost use Rattle.std.specs.Prelude.{◌<◌, ◌≤◌, ◌+◌, ◌*◌};
+// The drawer's book by a plain listing. A row of n stations is a number, the first symbol its highest binary digit.
+ghost use Rattle.std.specs.Prelude.{◌<◌, ◌≤◌, ◌*◌, IfSome};
 
-// What is next in the book: a line's number or none, which has number 0, the number of the row it is measured from, and the trials owed
-// to it. A line is measured from the one given before it, the first from the limit. After none nothing is to come.
+use refusal::Refusal;
+use test_rows::Drawer;
+use walk::Answer;
+
+// A drawer of up to 14 stations; half of the rows of so many stations.
+#[derive(Clone, Copy)]
+pub struct Shelf {
+    pub drawer: Drawer,
+    pub half: usize,
+    ghost few_stations: { drawer.n ≤ 14 },
+    ghost half_of_all: { (1 ≤ half) × (half ≤ 8192) },
+}
+
+// A row of as many stations.
+#[derive(Clone, Copy)]
+pub struct Row {
+    pub shelf: Shelf,
+    pub number: usize,
+    ghost in_shelf: { number < 2 * shelf.half },
+}
+
+// What is to come: a line, none, or nothing any more.
+#[derive(Clone, Copy, PartialEq, Eq)]
+pub enum Next {
+    Line,
+    None,
+    Over,
+}
+
+// What is next in the book of a drawer: the line, a row of zeros where it is none, the number of the row it is
+// measured from, and the trials owed to it. A line is measured from the one given before it, the first from the limit.
 #[derive(Clone, Copy)]
 pub struct Book {
-    pub number: usize,
+    pub next: Next,
+    pub row: Row,
     pub kept: usize,
-    pub none: bool,
-    pub over: bool,
-    pub owed: usize,
-}
-
-// Half of the rows of n stations, n up to 14.
-pub fn half_of(n: usize) -> usize
-    ensures { (1 ≤ result) × (result ≤ 8192) }
-{
-    match n {
-        2 => 2,
-        3 => 4,
-        4 => 8,
-        5 => 16,
-        6 => 32,
-        7 => 64,
-        8 => 128,
-        9 => 256,
-        10 => 512,
-        11 => 1024,
-        12 => 2048,
-        13 => 4096,
-        14 => 8192,
-        _ => 1,
-    }
-}
-
-// The row read from its second place on, then its first symbol.
-fn turned(half: usize, x: usize) -> usize
-    requires half_bound { half ≤ 8192 }
-    requires x_bound { x < 2 * half }
-    ensures { result < 2 * half }
-{
-    if x < half { 2 * x } else { 2 * (x - half) + 1 }
-}
-
-// 0 not shelved, 1 shelved, 2 also without symmetry.
-fn class(n: usize, half: usize, x: usize) -> u8
-    requires half_bound { half ≤ 8192 }
-    requires x_bound { x < 2 * half }
-{
-    let mut class: u8 = 2;
-    let mut y = x;
-    let mut j: usize = 1;
-    while j < n {
-        y = turned(half, y);
-        if y < x {
-            return 0;
-        }
-        if y == x {
-            class = 1;
-        }
-        j += 1;
-    }
-    class
-}
-
-// The row read from its last place to its first.
-fn reversed(n: usize, half: usize, x: usize) -> usize
-    requires half_bound { half ≤ 8192 }
-    requires x_bound { x < 2 * half }
-    ensures { result < 2 * half }
-{
-    let mut back: usize = 0;
-    let mut rest = x;
-    let mut i: usize = 0;
-    while i < n {
-        back = (2 * back + rest % 2) % (2 * half);
-        rest /= 2;
-        i += 1;
-    }
-    back
-}
-
-// Whether the row is at or below all turns of its reverse.
-fn is_lowest_turned(n: usize, half: usize, x: usize) -> bool
-    requires half_bound { half ≤ 8192 }
-    requires x_bound { x < 2 * half }
-{
-    let mut y = reversed(n, half, x);
-    let mut j: usize = 0;
-    while j < n {
-        if y < x {
-            return false;
-        }
-        y = turned(half, y);
-        j += 1;
-    }
-    true
-}
-
-// Whether a shelved row is of a kind.
-fn is_of_kind(n: usize, half: usize, kind: u8, x: usize) -> bool
-    requires half_bound { half ≤ 8192 }
-    requires x_bound { x < 2 * half }
-{
-    if kind == 3 {
-        return is_lowest_turned(n, half, x);
-    }
-    kind <= class(n, half, x)
+    pub owed: u64,
 }
 
 // The last symbol of a line isn't counted.
@@ -124,11 +55,9 @@ fn holes(x: usize, k: usize, line: bool) -> usize
 {
     let mut rest = x;
     let mut count: usize = 0;
-    let mut i: usize = 0;
-    while i < k {
-        count += test_rows::one_if(is_counted(rest, i, line));
+    for i in 0..k {
+        count += usize::from(is_counted(rest, i, line));
         rest /= 2;
-        i += 1;
     }
     count
 }
@@ -139,14 +68,12 @@ fn differing(n: usize, x: usize, y: usize) -> usize
 {
     let mut a = x;
     let mut b = y;
-    let mut k: usize = 0;
-    while k < n {
+    for k in 0..n {
         if a == b {
             return k;
         }
         a /= 2;
         b /= 2;
-        k += 1;
     }
     n
 }
@@ -163,148 +90,213 @@ fn price(n: usize, x: usize, y: usize, line: bool) -> usize
     holes(x, k, line) + (k - 1)
 }
 
-// Whether the row is one of the drawer.
-fn is_shelved(n: usize, half: usize, d: usize, x: usize) -> bool
-    requires n_bound { n ≤ 14 }
-    requires half_bound { half ≤ 8192 }
-    requires x_bound { x < 2 * half }
-{
-    if holes(x, n, false) != d {
-        return false;
+impl Shelf {
+    pub fn new(drawer: Drawer) -> Shelf
+        requires { drawer.n ≤ 14 }
+    {
+        let half = if drawer.n == 0 {
+            1
+        } else {
+            1usize << (drawer.n - 1)
+        };
+        Shelf { drawer, half }
     }
-    class(n, half, x) != 0
-}
 
-// The drawer's highest row below x, or x when there is none.
-fn highest_below(n: usize, half: usize, d: usize, x: usize) -> usize
-    requires n_bound { n ≤ 14 }
-    requires half_bound { half ≤ 8192 }
-    requires x_bound { x < 2 * half }
-    ensures { result ≤ x }
-{
-    let mut y = x;
-    while 0 < y {
-        y -= 1;
-        if is_shelved(n, half, d, y) {
-            return y;
+    // The row of the last n binary digits of a number.
+    pub fn row(self, number: usize) -> Row {
+        Row {
+            shelf: self,
+            number: number % (2 * self.half),
         }
     }
-    x
-}
 
-// The book after x, x a line or a limit that is none: lines of another kind are struck out, their price is owed to what follows.
-fn after(n: usize, half: usize, d: usize, kind: u8, x: usize, line: bool) -> Book
-    requires n_bound { n ≤ 14 }
-    requires half_bound { half ≤ 8192 }
-    requires x_bound { x < 2 * half }
-    ensures { result.number < 2 * half }
-{
-    let mut number = x;
-    let mut is_line = line;
-    let mut owed: usize = 0;
-    let mut y = highest_below(n, half, d, x);
-    while y < number {
-        owed += price(n, number, y, is_line);
-        number = y;
-        is_line = true;
-        if is_of_kind(n, half, kind, number) {
+    // The book of the drawer, at or below the limit with a number.
+    pub fn opened(self, number: usize) -> Book {
+        let limit = self.row(number);
+        if !limit.is_shelved() {
+            return limit.after(false);
+        }
+        if limit.is_of_kind() {
             return Book {
-                number,
-                kept: x,
-                none: false,
-                over: false,
-                owed,
+                next: Next::Line,
+                row: limit,
+                kept: limit.number,
+                owed: 0,
             };
         }
-        y = highest_below(n, half, d, number);
+        limit.after(true)
     }
-    owed += holes(number, n, is_line);
-    Book {
-        number: 0,
-        kept: x,
-        none: true,
-        over: false,
-        owed,
-    }
-}
 
-// The book of a drawer, of a kind, at or below a limit.
-pub fn opened(n: usize, half: usize, d: usize, kind: u8, limit: usize) -> Book
-    requires n_bound { n ≤ 14 }
-    requires half_bound { half ≤ 8192 }
-    requires limit_bound { limit < 2 * half }
-    ensures { result.number < 2 * half }
-{
-    if !is_shelved(n, half, d, limit) {
-        return after(n, half, d, kind, limit, false);
-    }
-    if is_of_kind(n, half, kind, limit) {
-        return Book {
-            number: limit,
-            kept: limit,
-            none: false,
-            over: false,
-            owed: 0,
-        };
-    }
-    after(n, half, d, kind, limit, true)
-}
-
-// What the book says to a step: a line 0, none 1, or the refusal's number.
-pub fn says(book: Book, allowance: usize) -> u8 {
-    if book.over {
-        return 20;
-    }
-    if allowance < book.owed {
-        return 21;
-    }
-    if book.none { 1 } else { 0 }
-}
-
-// The trials of a step.
-pub fn trials(book: Book, allowance: usize) -> usize {
-    if allowance < book.owed {
-        return allowance;
-    }
-    book.owed
-}
-
-// The place that a step carries.
-pub fn place(n: usize, book: Book, allowance: usize) -> usize {
-    if says(book, allowance) != 0 {
-        return 0;
-    }
-    let k = differing(n, book.kept, book.number);
-    if k == 0 {
-        return 0;
-    }
-    n - k + 1
-}
-
-// The book after a step.
-pub fn stepped(n: usize, half: usize, d: usize, kind: u8, book: Book, allowance: usize) -> Book
-    requires n_bound { n ≤ 14 }
-    requires half_bound { half ≤ 8192 }
-    requires number_bound { book.number < 2 * half }
-    ensures { result.number < 2 * half }
-{
-    if allowance < book.owed {
-        return Book {
-            number: book.number,
-            kept: book.kept,
-            none: book.none,
-            over: false,
-            owed: book.owed - allowance,
-        };
-    }
-    if book.none {
-        return Book {
-            number: 0,
+    // The book when nothing is to come.
+    pub fn ended(self) -> Book {
+        Book {
+            next: Next::Over,
+            row: self.row(0),
             kept: 0,
-            none: true,
-            over: true,
             owed: 0,
-        };
+        }
     }
-    after(n, half, d, kind, book.number, true)
+}
+
+impl Row {
+    // The row read from its second place on, then its first symbol.
+    fn turned(self) -> Row {
+        let half = self.shelf.half;
+        let number = if self.number < half {
+            2 * self.number
+        } else {
+            2 * (self.number - half) + 1
+        };
+        Row {
+            shelf: self.shelf,
+            number,
+        }
+    }
+
+    // 0 not shelved, 1 shelved, 2 also without symmetry.
+    fn class(self) -> u8 {
+        let mut class: u8 = 2;
+        let mut turn = self;
+        for _ in 1..self.shelf.drawer.n {
+            turn = turn.turned();
+            if turn.number < self.number {
+                return 0;
+            }
+            if turn.number == self.number {
+                class = 1;
+            }
+        }
+        class
+    }
+
+    // The row read from its last place to its first.
+    fn reversed(self) -> Row {
+        let mut back = self.shelf.row(0);
+        let mut rest = self.number;
+        for _ in 0..self.shelf.drawer.n {
+            back = self.shelf.row(2 * back.number + rest % 2);
+            rest /= 2;
+        }
+        back
+    }
+
+    // Whether the row is at or below all turns of its reverse.
+    fn is_lowest_turned(self) -> bool {
+        let mut turn = self.reversed();
+        for _ in 0..self.shelf.drawer.n {
+            if turn.number < self.number {
+                return false;
+            }
+            turn = turn.turned();
+        }
+        true
+    }
+
+    // Whether a shelved row is of the kind.
+    fn is_of_kind(self) -> bool {
+        let kind = self.shelf.drawer.kind;
+        if kind == 3 {
+            return self.is_lowest_turned();
+        }
+        kind <= self.class()
+    }
+
+    // Whether the row is one of the drawer.
+    fn is_shelved(self) -> bool {
+        let drawer = self.shelf.drawer;
+        holes(self.number, drawer.n, false) == drawer.d && self.class() != 0
+    }
+
+    // The drawer's highest row below this one.
+    fn highest_below(self) -> Option<Row>
+        ensures { IfSome result (λ below. below.number < self.number) }
+    {
+        for number in (0..self.number).rev() {
+            let below = Row {
+                shelf: self.shelf,
+                number,
+            };
+            if below.is_shelved() {
+                return Some(below);
+            }
+        }
+        None
+    }
+
+    // The book after this row, a line or a limit that is none: lines of another kind are struck out, their price is owed
+    // to what follows.
+    fn after(self, line: bool) -> Book {
+        let n = self.shelf.drawer.n;
+        let mut last = self;
+        let mut is_line = line;
+        let mut owed: u64 = 0;
+        while let Some(below) = last.highest_below() {
+            owed += price(n, last.number, below.number, is_line) as u64;
+            last = below;
+            is_line = true;
+            if last.is_of_kind() {
+                return Book {
+                    next: Next::Line,
+                    row: last,
+                    kept: self.number,
+                    owed,
+                };
+            }
+        }
+        owed += holes(last.number, n, is_line) as u64;
+        Book {
+            next: Next::None,
+            row: self.shelf.row(0),
+            kept: self.number,
+            owed,
+        }
+    }
+}
+
+impl Book {
+    // What the book says to a step.
+    pub fn says(self, allowance: u64) -> Result<Answer, Refusal> {
+        if self.next == Next::Over {
+            return Err(Refusal::Ended);
+        }
+        if allowance < self.owed {
+            return Err(Refusal::Spent);
+        }
+        if self.next == Next::None {
+            return Ok(Answer::None);
+        }
+        Ok(Answer::Ring)
+    }
+
+    // The trials of a step.
+    pub fn trials(self, allowance: u64) -> u64 {
+        self.owed.min(allowance)
+    }
+
+    // The place that a step carries.
+    pub fn place(self, allowance: u64) -> usize {
+        if self.says(allowance) != Ok(Answer::Ring) {
+            return 0;
+        }
+        let n = self.row.shelf.drawer.n;
+        let k = differing(n, self.kept, self.row.number);
+        if k == 0 {
+            return 0;
+        }
+        n - k + 1
+    }
+
+    // The book after a step.
+    pub fn stepped(self, allowance: u64) -> Book {
+        if allowance < self.owed {
+            return Book {
+                owed: self.owed - allowance,
+                ..self
+            };
+        }
+        if self.next == Next::Line {
+            return self.row.after(true);
+        }
+        self.row.shelf.ended()
+    }
 }

@@ -1,24 +1,17 @@
-// For the test programs: rows of walk records, compared and numbered; records at random; the drawer's book, by a plain
-// listing.
+// For the test programs: rows of walk records as numbers; records at random; the drawer's book, by a plain listing.
 #![tactic(auto)]
 
 pub mod book;
 pub mod random;
 
-use walk::Answer;
+ghost use Rattle.std.specs.Prelude.{◌≤◌};
 
-// A ring 0, none 1, or the refusal's number.
-pub fn answer_number(answer: Answer) -> u8 {
-    match answer {
-        Answer::Ring => 0,
-        Answer::None => 1,
-        Answer::Refused(r) => refusal::number(r),
-    }
-}
+use refusal::Refusal;
+use test_rows::{Drawer, cases};
+use walk::{Answer, Opened, Walk};
 
-// Whether all 64 bytes are the same.
-pub fn same_row(row: &[u8; refusal::MOST_STATIONS], other: &[u8; refusal::MOST_STATIONS]) -> bool {
-    test_rows::order(row, 0, other, 0, refusal::MOST_STATIONS) == 1
+pub fn open(drawer: Drawer, limit: &[u8]) -> Opened {
+    Walk::open(drawer.n, drawer.d, drawer.kind, limit)
 }
 
 // The place, from 1, where the first n symbols first differ; 0 where they are the same.
@@ -27,41 +20,26 @@ pub fn first_difference(
     row: &[u8; refusal::MOST_STATIONS],
     other: &[u8; refusal::MOST_STATIONS],
 ) -> usize {
-    let mut i: usize = 0;
-    while i < n {
-        if refusal::MOST_STATIONS <= i {
-            return 0;
-        }
-        if row[i] != other[i] {
-            return i + 1;
-        }
-        i += 1;
-    }
-    0
+    let mut pairs = row.iter().zip(other).take(n);
+    pairs.position(|(x, y)| x != y).map_or(0, |i| i + 1)
 }
 
-// The number whose binary digits are the first n symbols, modulo a prime.
-pub fn number_of(n: usize, row: &[u8; refusal::MOST_STATIONS]) -> usize {
-    let mut number: usize = 0;
-    let mut i: usize = 0;
-    while i < n {
-        if refusal::MOST_STATIONS <= i {
-            return number;
-        }
-        number = (2 * number + test_rows::wide(row[i])) % 10007;
-        i += 1;
+// What is left of a number, divided by a prime, that has these digits to a base.
+pub fn remainder(digits: &[u8], base: usize) -> usize
+    requires { base ≤ 256 }
+{
+    let mut rest: usize = 0;
+    for digit in digits {
+        rest = (rest * base + usize::from(*digit)) % 10007;
     }
-    number
+    rest
 }
 
 // ---- sums, none above a billion
 
 pub fn plus(x: usize, y: usize) -> usize {
     let most: usize = 1000000000;
-    if most < x {
-        return most;
-    }
-    if most < y {
+    if most < x || most < y {
         return most;
     }
     x + y
@@ -76,17 +54,30 @@ pub fn print_truth(holds: bool) {
     io::write_all(1, b"\n");
 }
 
-// What a step says: a ring 0, none 1, or the refusal's number.
-pub fn print_said(said: u8) {
+// What a step says.
+pub fn print_said(said: Result<Answer, Refusal>) {
     match said {
-        0 => {
+        Ok(Answer::Ring) => {
             io::write_all(1, b": ring");
         }
-        1 => {
+        Ok(Answer::None) => {
             io::write_all(1, b": none");
         }
-        _ => {
-            test_rows::print_named(b": refused ", test_rows::wide(said));
-        }
+        Err(r) => test_rows::print_named(b": refused ", usize::from(refusal::number(r))),
     }
+}
+
+pub fn print_row(walk: Walk) {
+    io::write_all(1, b" row ");
+    test_rows::print_row(walk.n, &walk.row);
+}
+
+// The first n symbols as a number, as far as there are so many.
+pub fn number_of(n: usize, row: &[u8; refusal::MOST_STATIONS]) -> usize {
+    remainder(cases::part(row, 0, n.min(refusal::MOST_STATIONS)), 2)
+}
+
+// The row and the row kept, as numbers.
+pub fn rows_of(walk: Walk) -> usize {
+    plus(number_of(walk.n, &walk.row), number_of(walk.n, &walk.kept))
 }

@@ -1,6 +1,5 @@
 // Records at random, most of them near to what a walk hands back.
 ghost use Rattle.std.specs.Prelude.{◌<◌};
-ghost use Rattle.refusal.specs.Verdicts.{most_stations};
 
 use walk::{Standing, Walk};
 
@@ -14,18 +13,16 @@ fn next(x: usize) -> usize
 
 // A number below a bound: each record has 80 of them.
 pub fn drawn(index: usize, which: usize, bound: usize) -> usize
-    requires index_bound { index < 1000000 }
-    requires which_bound { which < 80 }
-    requires bound_nonzero { 0 < bound }
+    requires { 0 < bound }
     ensures { result < bound }
 {
-    let x = next(next(next(index * 80 + which)));
+    let first = index.wrapping_mul(80).wrapping_add(which) % 2147483648;
+    let x = next(next(next(first)));
     x / 65536 % bound
 }
 
 // Stations: few, or any number up to 67.
 fn stations(index: usize) -> usize
-    requires { index < 1000000 }
     ensures { result < 68 }
 {
     if drawn(index, 64, 2) == 0 {
@@ -35,10 +32,7 @@ fn stations(index: usize) -> usize
 }
 
 // The symbol at a place: in some rows 0, now and then a byte that is none, now and then a 1 behind the row.
-fn symbol(index: usize, i: usize, n: usize) -> u8
-    requires index_bound { index < 1000000 }
-    requires i_lt_most_stations { i < most_stations }
-{
+fn symbol(index: usize, i: usize, n: usize) -> u8 {
     if drawn(index, 66, 8) == 0 {
         return 0;
     }
@@ -58,22 +52,13 @@ fn symbol(index: usize, i: usize, n: usize) -> u8
     (x % 2) as u8
 }
 
-fn row(index: usize, n: usize) -> [u8; refusal::MOST_STATIONS]
-    requires { index < 1000000 }
-{
-    let mut row = [0u8; refusal::MOST_STATIONS];
-    let mut i: usize = 0;
-    while i < refusal::MOST_STATIONS {
-        row[i] = symbol(index, i, n);
-        i += 1;
-    }
-    row
+fn row(index: usize, n: usize) -> [u8; refusal::MOST_STATIONS] {
+    std::array::from_fn(|i| symbol(index, i, n))
 }
 
 // Holes: those of the row, or any number up to one above the stations.
 fn holes(index: usize, n: usize, row: &[u8; refusal::MOST_STATIONS]) -> usize
-    requires index_bound { index < 1000000 }
-    requires n_bound { n < 68 }
+    requires { n < 68 }
 {
     if drawn(index, 67, 2) == 0 {
         return drawn(index, 68, n + 2);
@@ -82,9 +67,7 @@ fn holes(index: usize, n: usize, row: &[u8; refusal::MOST_STATIONS]) -> usize
 }
 
 // 1 to 3, now and then 0 or 4.
-fn kind(index: usize) -> u8
-    requires { index < 1000000 }
-{
+fn kind(index: usize) -> u8 {
     let x = drawn(index, 69, 32);
     if x == 0 {
         return 0;
@@ -97,8 +80,7 @@ fn kind(index: usize) -> u8
 
 // Any standing, with a place up to one above the stations.
 fn standing(index: usize, n: usize) -> Standing
-    requires index_bound { index < 1000000 }
-    requires n_bound { n < 68 }
+    requires { n < 68 }
 {
     let place = drawn(index, 71, n + 2);
     match drawn(index, 70, 5) {
@@ -116,22 +98,18 @@ fn kept(
     n: usize,
     own: [u8; refusal::MOST_STATIONS],
     at: Standing,
-) -> [u8; refusal::MOST_STATIONS]
-    requires { index < 500000 }
-{
+) -> [u8; refusal::MOST_STATIONS] {
     let x = drawn(index, 73, 8);
     if x < 2 {
         return own;
     }
-    if x < 7 && walk_records::standing_number(at) == 4 {
+    if x < 7 && matches!(at, Standing::Ended) {
         return [0u8; refusal::MOST_STATIONS];
     }
-    row(index + 500000, n)
+    row(index.wrapping_add(500000), n)
 }
 
-pub fn record(index: usize) -> Walk
-    requires { index < 500000 }
-{
+pub fn record(index: usize) -> Walk {
     let n = stations(index);
     let row = row(index, n);
     let d = holes(index, n, &row);
@@ -147,9 +125,7 @@ pub fn record(index: usize) -> Walk
 }
 
 // Up to 6 trials, or plenty.
-pub fn allowance(index: usize) -> u64
-    requires { index < 1000000 }
-{
+pub fn allowance(index: usize) -> u64 {
     let x = drawn(index, 72, 8);
     if x < 7 { x as u64 } else { 1000 }
 }

@@ -12,7 +12,26 @@ use Rattle.text.proofs.Runs.{run_take}
 use Rattle.text.specs.Parts.{is_numeral, numeral_at, run, space, spaced_at, value_from}
 use Rattle.words.specs.Tests.{is_prefix}
 use Rattle.text.specs.declared.Bytes.TheVariants.{Digits}
-use Rattle.text.specs.declared.Numeral.TheVariants.{NoNumber, Number}
+use Rattle.text.specs.declared.Numeral.{Numeral}
+use Rattle.std.specs.Prelude.{Option, Some, None}
+
+-- a number that was read, and the place behind it
+abbrev pub read : ℕ → ℕ → Option Numeral
+read value next = Some (record { value = value; next = next })
+
+pub same_value : {a b x y : ℕ} → read a b ≡ read x y → a ≡ x
+same_value e = ap value_of e
+  where
+    value_of : Option Numeral → ℕ
+    value_of (Some n) = n.value
+    value_of None = 0
+
+pub same_next : {a b x y : ℕ} → read a b ≡ read x y → b ≡ y
+same_next e = ap next_of e
+  where
+    next_of : Option Numeral → ℕ
+    next_of (Some n) = n.next
+    next_of None = 0
 
 -- lists of one, two and three, by their elements
 list_one : (l : List ℕ) → length l ≡ 1 → l ≡ get_or l 0 0 ∷ []
@@ -37,43 +56,43 @@ module _ (s : List ℕ) (at n : ℕ) (e : n ≡ length (run Digits (drop at s)))
   first : 0 < n → get_or (run Digits (drop at s)) 0 0 ≡ get_or s at 0
   first h = digit_at 0 h ∙ rw add-zero
 
-  pub no_digit : n ≡ 0 → NoNumber ≡ numeral_at s at
+  pub no_digit : n ≡ 0 → None ≡ numeral_at s at
   unfolding numeral_at is_numeral
   no_digit h = rw (← e, h)
 
-  pub many_digits : 3 < n → NoNumber ≡ numeral_at s at
+  pub many_digits : 3 < n → None ≡ numeral_at s at
   unfolding numeral_at is_numeral
   many_digits h = rw (← e, le-leb 1 n (omega arith), lt-leb n 3 h)
 
-  pub leading_zero : 1 < n → n ≤ 3 → get_or s at 0 ≡ 48 → NoNumber ≡ numeral_at s at
+  pub leading_zero : 1 < n → n ≤ 3 → get_or s at 0 ≡ 48 → None ≡ numeral_at s at
   unfolding numeral_at is_numeral
   leading_zero h k z = rw (← e, le-leb 1 n (omega arith), le-leb n 3 k, ne_eqb n 1 (λ q. omega arith), first (omega arith), z)
 
-  pub one_digit : n ≡ 1 → (a : ℕ) → a ≡ get_or s at 0 - 48 → Number a (at + 1) ≡ numeral_at s at
+  pub one_digit : n ≡ 1 → (a : ℕ) → a ≡ get_or s at 0 - 48 → read a (at + 1) ≡ numeral_at s at
   unfolding numeral_at is_numeral value_from
   one_digit h a p = rw (list_one (run Digits (drop at s)) (omega arith), first (omega arith), p, zero-add)
 
-  pub two_digits : n ≡ 2 → (get_or s at 0 ≡ 48 → ⊥) → (a b : ℕ) → a ≡ get_or s at 0 - 48 → b ≡ get_or s (at + 1) 0 - 48 → Number (a * 10 + b) (at + 2) ≡ numeral_at s at
+  pub two_digits : n ≡ 2 → (get_or s at 0 ≡ 48 → ⊥) → (a b : ℕ) → a ≡ get_or s at 0 - 48 → b ≡ get_or s (at + 1) 0 - 48 → read (a * 10 + b) (at + 2) ≡ numeral_at s at
   unfolding numeral_at is_numeral value_from
   two_digits h z a b p q =
       rw (list_two (run Digits (drop at s)) (omega arith), first (omega arith), digit_at 1 (omega arith), ne_eqb (get_or s at 0) 48 z, p, q, zero-add)
 
-  pub three_digits : n ≡ 3 → (get_or s at 0 ≡ 48 → ⊥) → (a b d : ℕ) → a ≡ get_or s at 0 - 48 → b ≡ get_or s (at + 1) 0 - 48 → d ≡ get_or s (at + 2) 0 - 48 → Number ((a * 10 + b) * 10 + d) (at + 3) ≡ numeral_at s at
+  pub three_digits : n ≡ 3 → (get_or s at 0 ≡ 48 → ⊥) → (a b d : ℕ) → a ≡ get_or s at 0 - 48 → b ≡ get_or s (at + 1) 0 - 48 → d ≡ get_or s (at + 2) 0 - 48 → read ((a * 10 + b) * 10 + d) (at + 3) ≡ numeral_at s at
   unfolding numeral_at is_numeral value_from
   three_digits h z a b d p q r =
       rw (list_three (run Digits (drop at s)) (omega arith), first (omega arith), digit_at 1 (omega arith), digit_at 2 (omega arith), ne_eqb (get_or s at 0) 48 z, p, q, r, zero-add)
 
 -- a number, and a space behind it
 module _ (s : List ℕ) (at : ℕ) where
-  pub no_number : NoNumber ≡ numeral_at s at → NoNumber ≡ spaced_at s at
+  pub no_number : None ≡ numeral_at s at → None ≡ spaced_at s at
   unfolding spaced_at
   no_number e = rw (← e)
 
-  module _ (v next : ℕ) (e : Number v next ≡ numeral_at s at) where
-    pub no_space : is_prefix (space ∷ []) (drop next s) ≡ false → NoNumber ≡ spaced_at s at
+  module _ (v next : ℕ) (e : read v next ≡ numeral_at s at) where
+    pub no_space : is_prefix (space ∷ []) (drop next s) ≡ false → None ≡ spaced_at s at
     unfolding spaced_at
     no_space h = rw (← e, h)
 
-    pub with_space : is_prefix (space ∷ []) (drop next s) ≡ true → Number v (next + 1) ≡ spaced_at s at
+    pub with_space : is_prefix (space ∷ []) (drop next s) ≡ true → read v (next + 1) ≡ spaced_at s at
     unfolding spaced_at
     with_space h = rw (← e, h)

@@ -7,14 +7,14 @@ use lib.ListN.{drop, length}
 use lib.Seq.{drop-append_seam, drop-drop}
 use Rattle.text.proofs.Claims.{digit_bytes}
 use Rattle.text.proofs.Every.{every_map}
-use Rattle.text.proofs.Numerals.{with_space}
+use Rattle.text.proofs.Numerals.{read, same_next, same_value, with_space}
 use Rattle.text.proofs.Runs.{run_split, Split, split_run}
 use Rattle.text.proofs.Spelling.{decimal_digits, decimal_value, numeral_exactly}
 use Rattle.text.specs.Decimals.{decimal}
 use Rattle.text.specs.Parts.{belongs, is_numeral, numeral_at, run, space, spaced, spaced_at, value_from}
 use Rattle.text.specs.declared.Bytes.TheVariants.{Digits}
 use Rattle.text.specs.declared.Numeral.{Numeral}
-use Rattle.text.specs.declared.Numeral.TheVariants.{NoNumber, Number}
+use Rattle.std.specs.Prelude.{Option, Some, None}
 use Rattle.words.proofs.Booleans.{clash}
 use Rattle.words.proofs.Lists.{is_prefix→, →is_prefix}
 use Rattle.words.specs.Tests.{is_prefix}
@@ -30,7 +30,7 @@ pub record NumberAt (s : List ℕ) (at n next : ℕ) : Type 0 where
   pub behind : next ≡ at + length (decimal n)
 
 module _ (s : List ℕ) (at n next : ℕ) where
-  pub number_read : Number n next ≡ numeral_at s at → NumberAt s at n next
+  pub number_read : read n next ≡ numeral_at s at → NumberAt s at n next
   unfolding numeral_at
   number_read = go (is_numeral found) refl
     where
@@ -38,14 +38,14 @@ module _ (s : List ℕ) (at n next : ℕ) where
       found = run Digits (drop at s)
 
       go : (t : Bool) → is_numeral found ≡ t
-          → Number n next ≡ cond t (Number (value_from 0 found) (at + length found)) NoNumber → NumberAt s at n next
+          → read n next ≡ cond t (read (value_from 0 found) (at + length found)) None → NumberAt s at n next
       go true q e =
           let r = run_split Digits (drop at s) in
           let m = (numeral_exactly found (every_map (λ b. (digit_bytes b).0) found r.every)).0 q in
-          let value : n ≡ value_from 0 found = cc in
+          let value : n ≡ value_from 0 found = same_value e in
           let same : m.0 ≡ n = sym (decimal_value m.0) ∙ ap (value_from 0) (sym m.2) ∙ sym value in
           let spelled : found ≡ decimal n = m.2 ∙ ap decimal same in
-          let place : next ≡ at + length found = cc in
+          let place : next ≡ at + length found = same_next e in
           record {
             below = rw same at m.1;
             digits = subst (Split Digits (drop at s)) spelled r;
@@ -53,7 +53,7 @@ module _ (s : List ℕ) (at n next : ℕ) where
           }
       go false q e = clash (cc)
 
-  pub number_found : NumberAt s at n next → Number n next ≡ numeral_at s at
+  pub number_found : NumberAt s at n next → read n next ≡ numeral_at s at
   unfolding numeral_at
   number_found r =
       let numeral = (numeral_exactly (decimal n) (decimal_digits n).0).1 (n, r.below, refl) in
@@ -92,25 +92,25 @@ module _ {s : List ℕ} {at n next : ℕ} (r : SpacedAt s at n next) where
         behind = refl;
       }
 
-  pub spaced_found : Number n next ≡ spaced_at s at
+  pub spaced_found : read n next ≡ spaced_at s at
   spaced_found =
       let end = at + length (decimal n) in
       let a-space : is_prefix (space ∷ []) (drop end s) ≡ true = rw at_space (→is_prefix (space ∷ []) r.rest) in
       rw r.behind (with_space s at n end (number_found s at n end number_there) a-space)
 
 module _ (s : List ℕ) (at n next : ℕ) where
-  pub spaced_read : Number n next ≡ spaced_at s at → SpacedAt s at n next
+  pub spaced_read : read n next ≡ spaced_at s at → SpacedAt s at n next
   unfolding spaced_at
   spaced_read = go (numeral_at s at) refl
     where
-      behind_number : (v p : ℕ) → Number v p ≡ numeral_at s at → (t : Bool) → is_prefix (space ∷ []) (drop p s) ≡ t
-          → Number n next ≡ cond t (Number v (p + 1)) NoNumber → SpacedAt s at n next
+      behind_number : (v p : ℕ) → read v p ≡ numeral_at s at → (t : Bool) → is_prefix (space ∷ []) (drop p s) ≡ t
+          → read n next ≡ cond t (read v (p + 1)) None → SpacedAt s at n next
       behind_number v p e true q h =
           let r = number_read s at v p e in
           let more = is_prefix→ (space ∷ []) (drop p s) q in
           let digits = r.digits in
-          let value : n ≡ v = cc in
-          let place : next ≡ p + 1 = cc in
+          let value : n ≡ v = same_value h in
+          let place : next ≡ p + 1 = same_next h in
           let left = drop_on s at (decimal v) digits.rest digits.whole in
           let rest : digits.rest ≡ space ∷ more.0 = sym left ∙ ap (λ i. drop i s) (sym r.behind) ∙ more.1 in
           rw (value, place)
@@ -122,6 +122,6 @@ module _ (s : List ℕ) (at n next : ℕ) where
           })
       behind_number v p e false q h = clash (cc)
 
-      go : (x : Numeral) → x ≡ numeral_at s at → Number n next ≡ spaced s x → SpacedAt s at n next
-      go (Number v p) e h = behind_number v p e (is_prefix (space ∷ []) (drop p s)) refl h
-      go NoNumber e h = clash (cc)
+      go : (x : Option Numeral) → x ≡ numeral_at s at → read n next ≡ spaced s x → SpacedAt s at n next
+      go (Some x) e h = behind_number x.value x.next e (is_prefix (space ∷ []) (drop x.next s)) refl h
+      go None e h = clash (cc)

@@ -2,32 +2,31 @@
 use mathlib.Core.Bool.{Bool, cond, false, false≢true, true, ◌&&◌}
 use mathlib.Core.List.{List, [], ◌++◌, ◌∷◌}
 use mathlib.Core.Logic.{⊎_elim}
-use mathlib.Core.Path.{ap, refl, sym, ◌∙◌, ◌≡◌}
+use mathlib.Core.Path.{ap, refl, ◌∙◌, ◌≡◌}
 use Prim.Native.Nat.{suc, ℕ, ◌+◌, ◌<◌, ◌≤◌}
-use native.Mathlib.Numerals.{add-one}
 use native.Mathlib.Omega.{arith}
 use lib.Dec.{eqb}
-use lib.ListN.{drop, drop_of_length-le, get_or, length, length-drop, take}
-use lib.Seq.{drop-cons}
-use borrow.Author.Tests.{eq-eqb, ne_eqb}
+use lib.ListN.{drop, drop_of_length-le, length, length-drop, take}
+use Rattle.std.proofs.lemmas.List.Folds.{length-prefix_len}
+use Rattle.std.specs.List.{prefix_len, starts_with, take_while}
 use Rattle.text.specs.Ascii.{Every}
 use Rattle.text.specs.Parts.{belongs, run}
 use Rattle.text.specs.declared.Bytes.{Bytes}
 use Rattle.words.proofs.Below.{le_or}
 use Rattle.words.specs.Tests.{is_prefix}
 
-module _ (sort : Bytes) (s : List ℕ) (i : ℕ) where
-  pub run_out : length s ≤ i → run sort (drop i s) ≡ []
-  unfolding run
-  run_out h = rw (drop_of_length-le s h)
+-- as many bytes as `take_while` takes
+passed : (sort : Bytes) (s : List ℕ) → prefix_len (belongs sort) s ≡ length (run sort s)
+unfolding run
+passed sort [] = refl
+passed sort (b ∷ s) = go (belongs sort b) (passed sort s)
+  where
+    go : (t : Bool) → prefix_len (belongs sort) s ≡ length (run sort s) → cond t (1 + prefix_len (belongs sort) s) 0 ≡ length (cond t (b ∷ run sort s) [])
+    go true e = omega (arith, e)
+    go false e = refl
 
-  pub run_stops : i < length s → belongs sort (get_or s i 0) ≡ false → run sort (drop i s) ≡ []
-  unfolding run
-  run_stops h e = rw (drop-cons s i 0 h, e)
-
-  pub run_on : i < length s → belongs sort (get_or s i 0) ≡ true → run sort (drop i s) ≡ get_or s i 0 ∷ run sort (drop (i + 1) s)
-  unfolding run
-  run_on h e = rw (drop-cons s i 0 h, e, add-one)
+pub run_counted : (sort : Bytes) (s : List ℕ) → length (take_while (belongs sort) s) ≡ length (run sort s)
+run_counted sort s = length-prefix_len (belongs sort) s ∙ passed sort s
 
 -- no byte of the sort stands at the front
 abbrev pub Stops : Bytes → List ℕ → Type 0
@@ -83,30 +82,14 @@ run_length sort (b ∷ s) = go (belongs sort b) (run_length sort s)
 pub run_inside : (sort : Bytes) (s : List ℕ) (at n : ℕ) → n ≡ length (run sort (drop at s)) → 0 < n → at + n ≤ length s
 run_inside sort s at n e h = omega (arith, rw length-drop at (run_length sort (drop at s)))
 
-module _ (w s : List ℕ) (k i : ℕ) where
-  prefix_byte : k < length w → i < length s → is_prefix (drop k w) (drop i s) ≡ cond (eqb (get_or w k 0) (get_or s i 0)) (is_prefix (drop (suc k) w) (drop (suc i) s)) false
-  unfolding is_prefix
-  prefix_byte h j = rw (drop-cons w k 0 h, drop-cons s i 0 j) (go (eqb (get_or w k 0) (get_or s i 0)))
-    where
-      go : (t : Bool) → ◌≡◌ {A = Bool} (t && is_prefix (drop (suc k) w) (drop (suc i) s)) (cond t (is_prefix (drop (suc k) w) (drop (suc i) s)) false)
-      go true = refl
-      go false = refl
-
-  pub prefix_done : length w ≤ k → is_prefix (drop k w) (drop i s) ≡ true
-  unfolding is_prefix
-  prefix_done h = rw (drop_of_length-le w h)
-
-  pub prefix_short : k < length w → length s ≤ i → is_prefix (drop k w) (drop i s) ≡ false
-  unfolding is_prefix
-  prefix_short h j = rw (drop-cons w k 0 h, drop_of_length-le s j)
-
-  pub prefix_same : k < length w → i < length s → get_or w k 0 ≡ get_or s i 0 → is_prefix (drop k w) (drop i s) ≡ is_prefix (drop (k + 1) w) (drop (i + 1) s)
-  prefix_same h j e = prefix_byte h j ∙ rw (eq-eqb _ _ e, add-one k, add-one i)
-
-  pub prefix_other : k < length w → i < length s → (get_or w k 0 ≡ get_or s i 0 → ⊥) → is_prefix (drop k w) (drop i s) ≡ false
-  prefix_other h j e = prefix_byte h j ∙ rw (ne_eqb _ _ e)
+-- as `starts_with` answers
+pub prefix_starts : (w s : List ℕ) → starts_with eqb s w ≡ is_prefix w s
+unfolding is_prefix
+prefix_starts [] s = refl
+prefix_starts (x ∷ w) [] = refl
+prefix_starts (x ∷ w) (y ∷ s) = ap (λ t. eqb x y && t) (prefix_starts w s)
 
 -- a word that stands at a place lies within the text
 pub prefix_inside : (b : ℕ) (s : List ℕ) (i : ℕ) → is_prefix (b ∷ []) (drop i s) ≡ true → i < length s
 unfolding is_prefix
-prefix_inside b s i e = ⊎_elim (λ h. absurd (false≢true (sym (prefix_short (b ∷ []) s 0 i (search arith) h) ∙ e))) (λ h. h) (le_or (length s) i)
+prefix_inside b s i e = ⊎_elim (λ h. absurd (false≢true (rw (drop_of_length-le s h) at e))) (λ h. h) (le_or (length s) i)

@@ -1,20 +1,16 @@
 -- Pieces written into a buffer, a byte at a time.
 use mathlib.Core.List.{List, [], append_assoc, append-nil, map, ◌++◌, ◌∷◌}
 use mathlib.Core.Path.{ap, refl, sym, ◌∙◌, ◌≡◌}
-use Prim.Native.Nat.{suc, zero, ℕ, ◌+◌, ◌-◌, ◌<◌, ◌≤◌}
+use Prim.Native.Nat.{ℕ, ◌+◌, ◌-◌, ◌<◌, ◌≤◌}
 use native.Mathlib.Numerals.{add-one}
 use native.Mathlib.Omega.{arith}
 use lib.ListN.{get_or-append, drop, drop_of_length-le, get_or, length, length-append, length-drop, length-map, set, take}
 use lib.Seq.{drop-drop, get_or_at, length-paste, paste, paste-suc, take_all, take-length}
+use Rattle.std.proofs.lemmas.List.{get_or-map}
 use Rattle.text.specs.Buffers.{placed}
 use Rattle.text.specs.Symbols.{character_of, row_field}
 use Rattle.text.specs.Parts.{space}
 use Rattle.words.specs.Buffers.{fronted}
-
-pub get_d_map_inside : (f : ℕ → ℕ) (l : List ℕ) (i : ℕ) → i < length l → get_or (map f l) i 0 ≡ f (get_or l i 0)
-get_d_map_inside f [] i h = absurd (omega arith)
-get_d_map_inside f (x ∷ l) zero h = refl
-get_d_map_inside f (x ∷ l) (suc i) h = get_d_map_inside f l i (omega arith)
 
 -- all of a piece is written
 pub paste_all : (d : List ℕ) (at : ℕ) (s : List ℕ) (i : ℕ) → i ≡ length s → paste d at s i ≡ placed d at s
@@ -47,7 +43,7 @@ module _ (row : List ℕ) where
   unfolding row_field
   row_at i h =
       let l = length-map row character_of in
-      sym (get_or-append (map character_of row) (space ∷ []) 0 i (omega arith) ∙ get_d_map_inside character_of row i h)
+      sym (get_or-append (map character_of row) (space ∷ []) 0 i (omega arith) ∙ get_or-map character_of row i 0 0 h)
 
   pub row_end : space ≡ get_or (row_field row) (length row) 0
   unfolding row_field

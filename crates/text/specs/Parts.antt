@@ -1,10 +1,9 @@
 -- The parts of a text, each from a place on: runs of bytes, numbers, and numbers with a space behind them.
-use Rattle.std.specs.Prelude.{Bool, cond, not, ◌&&◌, ◌||◌, List, [], ◌∷◌, ℕ, suc, ◌+◌, ◌*◌, ◌-◌, eqb, leb, length, drop, get_or}
+use Rattle.std.specs.Prelude.{Bool, Option, Some, None, cond, not, ◌&&◌, ◌||◌, List, [], ◌∷◌, ℕ, suc, ◌+◌, ◌*◌, ◌-◌, eqb, leb, length, drop, get_or}
 use Rattle.words.specs.Tests.{is_prefix}
 use Rattle.text.specs.declared.Bytes.{Bytes}
 use Rattle.text.specs.declared.Bytes.TheVariants.{Digits, Unspaced}
 use Rattle.text.specs.declared.Numeral.{Numeral}
-use Rattle.text.specs.declared.Numeral.TheVariants.{Number, NoNumber}
 
 -- the bytes of a space, a line feed and the digit 0
 abbrev pub space : ℕ
@@ -36,17 +35,17 @@ unfoldable pub is_numeral : List ℕ → Bool
 is_numeral s = leb 1 (length s) && leb (length s) 3 && (eqb (length s) 1 || not (eqb (get_or s 0 0) zero_digit))
 
 -- the number that stands at a place: its value, and the place behind it
-unfoldable pub numeral_at : List ℕ → ℕ → Numeral
+unfoldable pub numeral_at : List ℕ → ℕ → Option Numeral
 numeral_at s at =
     let digits = run Digits (drop at s) in
-    cond (is_numeral digits) (Number (value_from 0 digits) (at + length digits)) NoNumber
+    cond (is_numeral digits) (Some (record { value = value_from 0 digits; next = at + length digits })) None
 
 -- "single spaces": a number is followed by one, and the place is behind it
-abbrev pub spaced : List ℕ → Numeral → Numeral
-spaced s (Number value next) = cond (is_prefix (space ∷ []) (drop next s)) (Number value (next + 1)) NoNumber
-spaced s NoNumber = NoNumber
+abbrev pub spaced : List ℕ → Option Numeral → Option Numeral
+spaced s (Some n) = cond (is_prefix (space ∷ []) (drop n.next s)) (Some (record n { next = n.next + 1 })) None
+spaced s None = None
 
-unfoldable pub spaced_at : List ℕ → ℕ → Numeral
+unfoldable pub spaced_at : List ℕ → ℕ → Option Numeral
 spaced_at s at = spaced s (numeral_at s at)
 
 -- how many lines a text has, each ended by a line feed

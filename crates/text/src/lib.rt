@@ -6,15 +6,15 @@ pub mod symbols;
 pub mod write;
 
 // A sort of bytes: the digits, or the bytes of a line that are no spaces.
-#[derive(Clone, Copy)]
+#[derive(Clone, Copy, PartialEq, Eq)]
 pub enum Bytes {
     Digits,
     Unspaced,
 }
 
 // A number that was read, and the place behind it.
-#[derive(Clone, Copy)]
-pub enum Numeral {
-    Number(usize, usize),
-    NoNumber,
+#[derive(Clone, Copy, PartialEq, Eq)]
+pub struct Numeral {
+    pub value: usize,
+    pub next: usize,
 }

@@ -8,13 +8,11 @@ ghost use Rattle.text.specs.Buffers.{placed};
 pub fn symbol(byte: u8) -> u8
     ensures { result ≡ symbol_of byte }
 {
-    if byte == b'0' {
-        return 0;
+    match byte {
+        b'0' => 0,
+        b'1' => 1,
+        _ => 2,
     }
-    if byte == b'1' {
-        return 1;
-    }
-    2
 }
 
 // The symbols of a limit to the front of a buffer.
@@ -22,10 +20,8 @@ pub fn write_symbols(bytes: &[u8], out: &mut [u8])
     requires { length bytes.now ≤ length out.old }
     ensures { out.new ≡ fronted (map symbol_of bytes.now) out.old }
 {
-    let mut i: usize = 0;
-    while i < bytes.len() {
-        out[i] = symbol(bytes[i]);
-        i += 1;
+    for (i, byte) in bytes.iter().enumerate() {
+        out[i] = symbol(*byte);
     }
 }
 
@@ -33,10 +29,7 @@ pub fn write_symbols(bytes: &[u8], out: &mut [u8])
 pub fn character(symbol: u8) -> u8
     ensures { result ≡ character_of symbol }
 {
-    if symbol == 0 {
-        return b'0';
-    }
-    b'1'
+    if symbol == 0 { b'0' } else { b'1' }
 }
 
 // A row and the space behind it at a place of a buffer; the place behind them.
@@ -44,10 +37,8 @@ pub fn put_row(out: &mut [u8], at: usize, row: &[u8]) -> usize
     requires { at + length (row_field row.now) ≤ length out.old }
     ensures { (result ≡ at + length (row_field row.now)) × (out.new ≡ placed out.old at (row_field row.now)) }
 {
-    let mut i: usize = 0;
-    while i < row.len() {
-        out[at + i] = character(row[i]);
-        i += 1;
+    for (i, symbol) in row.iter().enumerate() {
+        out[at + i] = character(*symbol);
     }
     let end = at + row.len();
     out[end] = b' ';

@@ -8,9 +8,10 @@ pub fn decimal_length(n: u64) -> usize
     ensures { (result ≡ length (decimal n)) × (result ≤ 20) }
 {
     let mut count: usize = 1;
+    // a `while`: it goes by the digits, as `decimal` does, and by no index
     let mut rest = n;
     while 10 <= rest {
-        rest = rest / 10;
+        rest /= 10;
         count += 1;
     }
     count
@@ -30,22 +31,17 @@ pub fn put_field(out: &mut [u8], at: usize, n: u64, end: u8) -> usize
     requires { at + length (field n end) ≤ length out.old }
     ensures { (result ≡ at + length (field n end)) × (out.new ≡ placed out.old at (field n end)) }
 {
+    // digits by `as`: no From narrows
+    // a `while`: it goes by the digits, from the last
     let mut text = [end; 21];
     let mut from: usize = 20;
     let mut rest = n;
     while 10 <= rest {
         from -= 1;
         text[from] = b'0' + (rest % 10) as u8;
-        rest = rest / 10;
+        rest /= 10;
     }
     from -= 1;
     text[from] = b'0' + rest as u8;
     put(out, at, &text[from..])
-}
-
-// A byte as a number of more bits.
-pub fn wide(x: u8) -> u64
-    ensures { result ≡ x }
-{
-    x as u64
 }

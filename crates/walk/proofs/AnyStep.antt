@@ -11,6 +11,8 @@ use Rattle.listing.proofs.Strikes.{Coming, coming}
 use Rattle.listing.specs.Listing.{Line, says}
 use Rattle.listing.specs.Totals.{owed}
 use Rattle.refusal.proofs.Numbers.{some_number}
+use Rattle.refusal.specs.declared.Refusal.{Refusal}
+use Rattle.std.specs.Prelude.{Err, Ok, Result}
 use Rattle.walk.proofs.Fuel.{moves_enough}
 use Rattle.walk.proofs.Invariant.{Fit, fit_at_lem, fit_sound}
 use Rattle.walk.proofs.Needed.{needed_owed, spent_due}
@@ -22,7 +24,7 @@ use Rattle.walk.specs.Moves.{Rules, move_at, trial}
 use Rattle.walk.specs.Step.{answer_numbers, enough, step_fit, step_numbers, step_of, trials_needed}
 use Rattle.walk.specs.ToCome.{stands}
 use Rattle.walk.specs.declared.Answer.{Answer}
-use Rattle.walk.specs.declared.Answer.TheVariants.{None, Refused, Ring}
+use Rattle.walk.specs.declared.Answer.TheVariants.{None, Ring}
 use Rattle.walk.specs.declared.Standing.TheVariants.{Ended}
 use Rattle.walk.specs.declared.Stepped.{Stepped}
 use Rattle.walk.specs.declared.Walk.{Walk}
@@ -39,16 +41,16 @@ pub data StepCase (R : Rules) (w : Walk) (a : ℕ) (r : Stepped) : Type 0 where
   spent_case : (step_numbers r).number ≡ 21 → Unended R w → a < trials_needed R w → (step_numbers r).trials ≡ a → (u : Walk) → move_at R r.walk.at r.walk ≡ trial u → StepCase R w a r
   given_case : (step_numbers r).number ≡ 0 → Unended R w → trials_needed R w ≤ a → (step_numbers r).trials ≡ trials_needed R w → StepCase R w a r
 
-same_trials : (t : Answer) (v : Walk) (p k : ℕ) → (answer_numbers t v p k).trials ≡ k
-same_trials Ring v p k = refl
-same_trials None v p k = refl
-same_trials (Refused r) v p k = refl
+same_trials : (t : Result Answer Refusal) (v : Walk) (p k : ℕ) → (answer_numbers t v p k).trials ≡ k
+same_trials (Ok Ring) v p k = refl
+same_trials (Ok None) v p k = refl
+same_trials (Err r) v p k = refl
 
 -- an answer that says a ring or none has no number
-no_number : (t : Answer) (v : Walk) (p k : ℕ) {s : Line} → said_as t v ≡ says s → (answer_numbers t v p k).number ≡ 0
-no_number Ring v p k q = refl
-no_number None v p k q = refl
-no_number (Refused r) v p k q = let n = some_number r in absurd (refused≢line (rw n.1 at q))
+no_number : (t : Result Answer Refusal) (v : Walk) (p k : ℕ) {s : Line} → said_as t v ≡ says s → (answer_numbers t v p k).number ≡ 0
+no_number (Ok Ring) v p k q = refl
+no_number (Ok None) v p k q = refl
+no_number (Err r) v p k q = let n = some_number r in absurd (refused≢line (rw n.1 at q))
 
 module _ (R : Rules) (w : Walk) (a : ℕ) (long : length w.row ≡ R.most) where
   good_case : (f : Fit R w) (g : Good R w) → StepCase R w a (step_of R w a)

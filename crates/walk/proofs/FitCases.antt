@@ -3,11 +3,11 @@ use mathlib.Core.Bool.{Bool, and_assoc, false, true, ◌&&◌}
 use mathlib.Core.List.{List}
 use mathlib.Core.Path.{ap, refl, sym, ◌∙◌, ◌≡◌}
 use Prim.Native.Nat.{ℕ, ◌-◌, ◌≤◌}
-use lib.Dec.{eqb, leb}
+use lib.Dec.{leb}
 use lib.ListN.{length, take}
 use borrow.Author.Tests.{leb-true}
 use Rattle.density.proofs.Members.{is_necklace_of→}
-use Rattle.density.proofs.PaddedRows.{padded_symbols, zero_test}
+use Rattle.density.proofs.PaddedRows.{padded_symbols}
 use Rattle.density.specs.Necklaces.{begins, is_kind, is_necklace_of, of_kind}
 use Rattle.density.specs.Rows.{is_padded}
 use Rattle.refusal.proofs.Stations.{Sized, stations→}
@@ -79,10 +79,6 @@ module _ (w : Walk) where
     record_fitting f l =
         let z = sizes→ e in
         record { some = z.0.some; most = z.0.most; dense = z.1; long = l; symbols = padded_symbols w.n w.row (and→ (is_padded w.n w.row) (is_padded w.n w.kept) f).0 }
-
--- the highest symbol of a row is 0
-pub all_zeros : (r : ℕ) (row : List ℕ) → ((b : ℕ) → all_up_to b row ≡ leb r b) → eqb r 0 ≡ all_up_to 0 row
-all_zeros r row h = zero_test r ∙ sym (h 0)
 
 -- a necklace of a density is a necklace
 pub is_necklace_lem : (d : ℕ) (w : List ℕ) → is_necklace_of d w ≡ true → is_necklace w ≡ true

@@ -13,11 +13,13 @@ use Rattle.density.specs.Necklaces.{begins, is_necklace_of}
 use Rattle.walk.specs.InnerCourse.{Sound}
 use Rattle.density.proofs.PaddedRows.{padded→, zeros_padded, →padded}
 use Rattle.density.specs.Rows.{is_padded}
+use Rattle.refusal.specs.declared.Refusal.{Refusal}
+use Rattle.std.specs.Prelude.{Err, Ok, Result}
 use Rattle.walk.specs.Fit.{fit, fit_at, fit_rows, fit_sizes}
 use Rattle.walk.specs.Moves.{Rules, ended, moved, row_of}
 use Rattle.walk.specs.Step.{answered, keeps}
 use Rattle.walk.specs.declared.Answer.{Answer}
-use Rattle.walk.specs.declared.Answer.TheVariants.{None, Refused, Ring}
+use Rattle.walk.specs.declared.Answer.TheVariants.{None, Ring}
 use Rattle.walk.specs.declared.Standing.{Standing}
 use Rattle.walk.specs.declared.Standing.TheVariants.{Down, Given, Up}
 use Rattle.walk.specs.declared.Walk.{Walk}
@@ -57,13 +59,13 @@ sound_ended {w = w} s = record {
 }
 
 -- an answer keeps the row, zeros, or the row that was kept
-pub sound_answered : {R : Rules} {w : Walk} → Sound R w → (a : Answer) → Sound R (answered a w)
+pub sound_answered : {R : Rules} {w : Walk} → Sound R w → (a : Result Answer Refusal) → Sound R (answered a w)
 sound_answered {w = w} s a = record { some = s.some; most = s.most; dense = s.dense; kinds = s.kinds; long = s.long; binary = s.binary; clean = s.clean; keeps = go a }
   where
-    go : (a : Answer) → is_padded w.n (keeps a w) ≡ true
-    go Ring = →padded w.n w.row (binary_test s.binary) s.clean
-    go None = zeros_padded w.n (length w.kept)
-    go (Refused r) = s.keeps
+    go : (a : Result Answer Refusal) → is_padded w.n (keeps a w) ≡ true
+    go (Ok Ring) = →padded w.n w.row (binary_test s.binary) s.clean
+    go (Ok None) = zeros_padded w.n (length w.kept)
+    go (Err r) = s.keeps
 
 -- ---- fit
 
@@ -108,9 +110,9 @@ fit_at_lem {R} {w} f =
     ((and-eq-true_iff (fit_rows w) (fit_at R w.at w)).0 a.1).1
 
 -- the ended walk is fit
-pub ended_fit : {R : Rules} (w : Walk) → Sound R w → Fit R (answered None (ended w))
+pub ended_fit : {R : Rules} (w : Walk) → Sound R w → Fit R (answered (Ok None) (ended w))
 unfolding fit_at
-ended_fit w s = sound_fit (sound_answered (sound_ended s) None) (→and (zeros_clean 0 (length w.row)) (zeros_clean 0 (length w.kept)))
+ended_fit w s = sound_fit (sound_answered (sound_ended s) (Ok None)) (→and (zeros_clean 0 (length w.row)) (zeros_clean 0 (length w.kept)))
 
 -- where a trial is due, a good record is fit
 pub down_fit : (R : Rules) (w : Walk) (q : ℕ) → q < w.n → fit_at R (Down (suc q)) w ≡ true

@@ -10,10 +10,11 @@ use Rattle.density.specs.Necklaces.{begins, is_necklace_of}
 use Rattle.refusal.specs.Refusals.{place_of}
 use Rattle.refusal.specs.declared.Refusal.{Refusal}
 use Rattle.refusal.specs.declared.Refusal.TheVariants.{Ended as HasEnded, Spent, Unfit}
+use Rattle.std.specs.Prelude.{Err, Ok}
 use Rattle.walk.specs.Fit.{fit}
 use Rattle.walk.specs.Moves.{Move, Rules, answer, down_move, down_tried, found_move, free, gone_below, limit_move, move_at, moved, row_of, trial, up_move, up_tried}
 use Rattle.walk.specs.Step.{after, run, step_fit, step_of, stepped}
-use Rattle.walk.specs.declared.Answer.TheVariants.{None, Refused, Ring}
+use Rattle.walk.specs.declared.Answer.TheVariants.{None, Ring}
 use Rattle.walk.specs.declared.Standing.{Standing}
 use Rattle.walk.specs.declared.Standing.TheVariants.{Down, Ended, Given, Limit, Up}
 use Rattle.walk.specs.declared.Stepped.{Stepped}
@@ -24,15 +25,15 @@ use Rattle.words.specs.Symbols.{zeros}
 pub data Goes (w : Walk) : Move → Type 0 where
   goes_free : (row : List ℕ) (at : Standing) → Goes w (free (moved w row at))
   goes_trial : (row : List ℕ) (at : Standing) → Goes w (trial (moved w row at))
-  to_ring : (row : List ℕ) → Goes w (answer Ring (moved w row Given))
-  to_none : (k : ℕ) → Goes w (answer None (moved w (zeros k) Ended))
-  to_refusal : (r : Refusal) → place_of r ≡ 0 → Goes w (answer (Refused r) w)
+  to_ring : (row : List ℕ) → Goes w (answer (Ok Ring) (moved w row Given))
+  to_none : (k : ℕ) → Goes w (answer (Ok None) (moved w (zeros k) Ended))
+  to_refusal : (r : Refusal) → place_of r ≡ 0 → Goes w (answer (Err r) w)
 
 -- what a step of w hands back
 pub data Returns (w : Walk) : Stepped → Type 0 where
-  ring_of : (row : List ℕ) (t : ℕ) → Returns w (stepped (moved w row Given) Ring t)
-  none_of : (k t : ℕ) → Returns w (stepped (moved w (zeros k) Ended) None t)
-  refusal_of : (r : Refusal) → place_of r ≡ 0 → (row : List ℕ) (at : Standing) (t : ℕ) → Returns w (stepped (moved w row at) (Refused r) t)
+  ring_of : (row : List ℕ) (t : ℕ) → Returns w (stepped (moved w row Given) (Ok Ring) t)
+  none_of : (k t : ℕ) → Returns w (stepped (moved w (zeros k) Ended) (Ok None) t)
+  refusal_of : (r : Refusal) → place_of r ≡ 0 → (row : List ℕ) (at : Standing) (t : ℕ) → Returns w (stepped (moved w row at) (Err r) t)
 
 module _ (R : Rules) where
   module _ (w : Walk) where

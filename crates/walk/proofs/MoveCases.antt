@@ -13,6 +13,7 @@ use Rattle.density.proofs.Members.{Member}
 use Rattle.density.specs.Necklaces.{begins, is_necklace_of, of_kind}
 use Rattle.walk.specs.InnerCourse.{Good}
 use Rattle.walk.specs.Moves.{answer, down_tried, ended, found_move, free, gone_below, limit_move, move_at, moved, row_of, rules, trial, up_tried}
+use Rattle.std.specs.Prelude.{Ok}
 use Rattle.walk.specs.declared.Answer.TheVariants.{None}
 use Rattle.walk.specs.declared.Standing.TheVariants.{Down, Given, Limit, Up}
 use Rattle.walk.specs.declared.Walk.{Walk}
@@ -99,7 +100,7 @@ gone_on w h = go w.d refl
     go zero e = absurd (h e)
     go (suc d) e = refl
 
-pub from_none : (w : Walk) → w.at ≡ Down 0 → answer None (ended w) ≡ move_at rules w.at w
+pub from_none : (w : Walk) → w.at ≡ Down 0 → answer (Ok None) (ended w) ≡ move_at rules w.at w
 unfolding move_at
 from_none w e = rw e
 

@@ -25,6 +25,7 @@ use Rattle.walk.specs.Fit.{fit_at}
 use Rattle.walk.specs.Moves.{Move, Rules, answer, down_move, down_tried, ended, found_move, free, gone_below, limit_move, move_at, moved, row_of, trial, up_move, up_tried}
 use Rattle.walk.specs.Step.{answered}
 use Rattle.walk.specs.ToCome.{lines_at, rows_at, stands}
+use Rattle.std.specs.Prelude.{Ok}
 use Rattle.walk.specs.declared.Answer.TheVariants.{None, Ring}
 use Rattle.walk.specs.declared.Standing.{Standing}
 use Rattle.walk.specs.declared.Standing.TheVariants.{Down, Ended, Given, Limit, Up}
@@ -145,7 +146,7 @@ module _ (R : Rules) where
       at_found : (b : Bool) → R.of_kind w.kind (row_of w) ≡ b → Kept w (found_move b w)
       unfolding stands size
       at_found true e =
-          keeps_answer (sound_fit (sound_answered (sound_at sound Given) Ring) (given_fit R (answered Ring (moved w w.row Given)) (member_test i) e))
+          keeps_answer (sound_fit (sound_answered (sound_at sound Given) (Ok Ring)) (given_fit R (answered (Ok Ring) (moved w w.row Given)) (member_test i) e))
           (said_row (row_of w) (omega (arith, sound.some, i.long)))
           (stands_here w (Up (suc w.n)) at sound ∙ ap (strike (R.of_kind w.kind)) (found_lines w.n w.d w.row long i)
           ∙ strike_kept (R.of_kind w.kind) (row_of w) (lines_at Given w.n w.d w.row) e)
@@ -176,7 +177,7 @@ module _ (R : Rules) where
         (rw e (below_lines w.n d w.row some long j))
         (smaller w.n w.d Given (Down w.n) w.row (set w.row (w.n - 1) 0) (rw e (below_rows w.n d w.row some long j)) (omega arith))
 
-    at_none : w.at ≡ Down 0 → Kept w (answer None (ended w))
+    at_none : w.at ≡ Down 0 → Kept w (answer (Ok None) (ended w))
     unfolding stands strike lines_at
     at_none at =
         keeps_answer (ended_fit w sound) refl

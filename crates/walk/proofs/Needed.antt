@@ -16,7 +16,7 @@ use Rattle.walk.specs.InnerCourse.{Good, size}
 use Rattle.walk.specs.Moves.{Move, Rules, move_at, trial}
 use Rattle.walk.specs.Step.{after, answered, enough, needed_by, needed_in, run, trials_needed}
 use Rattle.walk.specs.ToCome.{stands}
-use Rattle.walk.specs.declared.Answer.TheVariants.{Refused}
+use Rattle.std.specs.Prelude.{Err}
 use Rattle.walk.specs.declared.Standing.TheVariants.{Ended}
 use Rattle.walk.specs.declared.Walk.{Walk}
 
@@ -60,14 +60,14 @@ module _ (R : Rules) where
   DueAt v = (u : Walk) × (move_at R v.at v ≡ trial u)
 
   abbrev DueIn : ℕ → Type 0
-  DueIn f = (k t : ℕ) (w : Walk) → size w < f → Good R w → (run R f k t w).answer ≡ Refused Spent → DueAt (run R f k t w).walk
+  DueIn f = (k t : ℕ) (w : Walk) → size w < f → Good R w → (run R f k t w).answer ≡ Err Spent → DueAt (run R f k t w).walk
 
   pub spent_due : (f : ℕ) → DueIn f
   unfolding run
   spent_due zero k t w h g = absurd (omega arith)
   spent_due (suc f) k t w h g = go k refl (keeping R w g) (spent_due f)
     where
-      go : (k : ℕ) {m : Move} → move_at R w.at w ≡ m → Kept w m → DueIn f → (after m k t w (run R f)).answer ≡ Refused Spent → DueAt (after m k t w (run R f)).walk
+      go : (k : ℕ) {m : Move} → move_at R w.at w ≡ m → Kept w m → DueIn f → (after m k t w (run R f)).answer ≡ Err Spent → DueAt (after m k t w (run R f)).walk
       go k q (keeps_free {v = v} gv p l) ih e = ih k t v (omega arith) gv e
       go zero q (keeps_trial {v = v} gv fw p l) ih e = (v, q)
       go (suc k) q (keeps_trial {v = v} gv fw p l) ih e = ih k (suc t) v (omega arith) gv e

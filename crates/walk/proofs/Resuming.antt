@@ -4,34 +4,22 @@ use mathlib.Core.Path.{ap, refl, subst, sym, ◌∙◌, ◌≡◌}
 use Prim.Native.Nat.{suc, zero, ℕ, ◌-◌, ◌<◌, ◌≤◌}
 use native.Mathlib.Nat.{le_refl}
 use native.Mathlib.Omega.{arith}
+use Rattle.refusal.specs.declared.Refusal.{Refusal}
 use Rattle.refusal.specs.declared.Refusal.TheVariants.{Ended as HasEnded, Spent}
+use Rattle.std.specs.Prelude.{Err, None, Option, Result, Some}
 use Rattle.walk.proofs.Fuel.{enough_some}
 use Rattle.walk.proofs.MovesKeep.{keeping}
 use Rattle.walk.proofs.MoveByMove.{Kept, kept_free, kept_trial, onward, onward_move}
 use Rattle.walk.proofs.Simulation.{run_ended}
-use Rattle.walk.specs.InnerCourse.{Good, Resumes, landed, rest, resumed, saying, size}
+use Rattle.walk.specs.InnerCourse.{Good, Resumes, landed, rest, resumed, size}
 use Rattle.walk.specs.Moves.{answer, free, move_at, moved, rules, trial}
 use Rattle.walk.specs.Step.{after, enough, stepped}
 use Rattle.walk.specs.declared.Answer.{Answer}
-use Rattle.walk.specs.declared.Answer.TheVariants.{None, Refused, Ring}
 use Rattle.walk.specs.declared.Reached.{Reached}
-use Rattle.walk.specs.declared.Said.{Said}
-use Rattle.walk.specs.declared.Said.TheVariants.{Nothing}
 use Rattle.walk.specs.declared.Standing.{Standing}
 use Rattle.walk.specs.declared.Standing.TheVariants.{Ended, Given}
 use Rattle.walk.specs.declared.Walk.{Walk}
 use Rattle.words.proofs.Booleans.{clash}
-
--- an answer is said
-pub saying_resumes : (x : Answer) (a k : ℕ) (w : Walk) → resumed (saying x) a k w ≡ stepped w x (a - k)
-saying_resumes Ring a k w = refl
-saying_resumes None a k w = refl
-saying_resumes (Refused r) a k w = refl
-
-not_silent : (x : Answer) → saying x ≡ Nothing → ⊥
-not_silent Ring e = clash (cc)
-not_silent None e = clash (cc)
-not_silent (Refused r) e = clash (cc)
 
 -- the step of w, with k trials left, comes to v with l left; both have the same sizes and kind
 pub record Comes (w : Walk) (k : ℕ) (v : Walk) (l : ℕ) : Type 0 where
@@ -43,10 +31,6 @@ pub record Comes (w : Walk) (k : ℕ) (v : Walk) (l : ℕ) : Type 0 where
 
 pub comes_here : (w : Walk) (k : ℕ) → Good rules w → Comes w k w k
 comes_here w k g = record { same = λ a h. refl; fewer = le_refl k; good = g; smaller = le_refl (size w); alike = λ r. refl }
-
--- where it stands is told
-pub comes_at : (w : Walk) (k : ℕ) (s : Standing) → w.at ≡ s → Good rules w → Comes w k (moved w w.row s) k
-comes_at w k s e g = subst (λ v. Comes w k v k) (ap (moved w w.row) e) (comes_here w k g)
 
 -- ---- one move more
 
@@ -82,33 +66,30 @@ module _ {w : Walk} {k : ℕ} {v : Walk} {l : ℕ} (c : Comes w k v l) where
 
   -- ---- what answers the step
 
-  says : (x : Answer) (r : Reached) → r.left ≡ l → r.said ≡ saying x → ((a : ℕ) → k ≤ a → rest a k w ≡ stepped (landed w r) x (a - l)) → Resumes w k r
+  says : (x : Result Answer Refusal) (r : Reached) → r.left ≡ l → r.said ≡ Some x → ((a : ℕ) → k ≤ a → rest a k w ≡ stepped (landed w r) x (a - l)) → Resumes w k r
   says x r e f q = record {
-    same = λ a h. q a h ∙ rw (f, e) (sym (saying_resumes x a l (landed w r)));
+    same = λ a h. q a h ∙ rw (f, e) refl;
     fewer = rw e c.fewer;
-    good = λ z. absurd (silent z);
-    given = λ z. absurd (silent z);
-    smaller = λ z. absurd (silent z);
+    good = λ z. clash (cc);
+    given = λ z. clash (cc);
+    smaller = λ z. clash (cc);
   }
-    where
-      silent : r.said ≡ Nothing → ⊥
-      silent z = not_silent x (sym f ∙ z)
 
-  pub then_answer : (x : Answer) (r : Reached) → r.left ≡ l → r.said ≡ saying x → answer x (landed v r) ≡ move_at rules v.at v → Resumes w k r
+  pub then_answer : (x : Result Answer Refusal) (r : Reached) → r.left ≡ l → r.said ≡ Some x → answer x (landed v r) ≡ move_at rules v.at v → Resumes w k r
   then_answer x r e f q = says x r e f (λ a h. moving a h ∙ ap (λ m. after m l (a - l) v (onward rules)) (sym q) ∙ ap (λ u. stepped u x (a - l)) (sym (c.alike r)))
 
   -- a trial is due with none left
-  pub then_spent : (u : Walk) (r : Reached) → l ≡ 0 → trial u ≡ move_at rules v.at v → landed v r ≡ v → r.left ≡ l → r.said ≡ saying (Refused Spent) → Resumes w k r
+  pub then_spent : (u : Walk) (r : Reached) → l ≡ 0 → trial u ≡ move_at rules v.at v → landed v r ≡ v → r.left ≡ l → r.said ≡ Some (Err Spent) → Resumes w k r
   then_spent u r z q i e f =
-      says (Refused Spent) r e f
-      (λ a h. moving a h ∙ ap (λ m. after m l (a - l) v (onward rules)) (sym q) ∙ go l z a ∙ ap (λ y. stepped y (Refused Spent) (a - l)) (sym (c.alike r ∙ i)))
+      says (Err Spent) r e f
+      (λ a h. moving a h ∙ ap (λ m. after m l (a - l) v (onward rules)) (sym q) ∙ go l z a ∙ ap (λ y. stepped y (Err Spent) (a - l)) (sym (c.alike r ∙ i)))
     where
-      go : (j : ℕ) → j ≡ 0 → (a : ℕ) → after (trial u) j (a - j) v (onward rules) ≡ stepped v (Refused Spent) (a - j)
+      go : (j : ℕ) → j ≡ 0 → (a : ℕ) → after (trial u) j (a - j) v (onward rules) ≡ stepped v (Err Spent) (a - j)
       go zero s a = refl
       go (suc j) s a = absurd (omega arith)
 
   -- a ring of another kind is found
-  pub then_struck : (r : Reached) → r.left ≡ l → r.said ≡ Nothing → r.at ≡ Given → free (landed v r) ≡ move_at rules v.at v → Resumes w k r
+  pub then_struck : (r : Reached) → r.left ≡ l → r.said ≡ None → r.at ≡ Given → free (landed v r) ≡ move_at rules v.at v → Resumes w k r
   then_struck r e f at q =
       let m = kept_free rules (subst (Kept rules v) (sym q) (keeping rules v c.good)) in
       record {
@@ -130,19 +111,16 @@ module _ {w : Walk} {k : ℕ} {v : Walk} {l : ℕ} (c : Comes w k v l) where
     smaller = λ z. rw (c.alike r) (omega (arith, q.smaller z, c.smaller));
   }
     where
-      go : (s : Said) (a : ℕ) → resumed s a r.left (landed v r) ≡ resumed s a r.left (landed w r)
+      go : (s : Option (Result Answer Refusal)) (a : ℕ) → resumed s a r.left (landed v r) ≡ resumed s a r.left (landed w r)
       go s a = ap (λ y. resumed s a r.left y) (sym (c.alike r))
 
 -- ---- a walk that has ended
 
-pub ended_resumes : (w : Walk) (k : ℕ) (r : Reached) → w.at ≡ Ended → landed w r ≡ w → r.left ≡ k → r.said ≡ saying (Refused HasEnded) → Resumes w k r
+pub ended_resumes : (w : Walk) (k : ℕ) (r : Reached) → w.at ≡ Ended → landed w r ≡ w → r.left ≡ k → r.said ≡ Some (Err HasEnded) → Resumes w k r
 ended_resumes w k r e i l f = record {
-  same = λ a h. run_ended rules w (enough w.n) k (a - k) (enough_some w.n) e ∙ ap (λ v. stepped v (Refused HasEnded) (a - k)) (sym i) ∙ rw (f, l);
+  same = λ a h. run_ended rules w (enough w.n) k (a - k) (enough_some w.n) e ∙ ap (λ v. stepped v (Err HasEnded) (a - k)) (sym i) ∙ rw (f, l);
   fewer = rw l (le_refl k);
-  good = λ z. absurd (silent z);
-  given = λ z. absurd (silent z);
-  smaller = λ z. absurd (silent z);
+  good = λ z. clash (cc);
+  given = λ z. clash (cc);
+  smaller = λ z. clash (cc);
 }
-  where
-    silent : r.said ≡ Nothing → ⊥
-    silent z = not_silent (Refused HasEnded) (sym f ∙ z)

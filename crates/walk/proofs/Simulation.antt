@@ -6,23 +6,25 @@ use native.Mathlib.Omega.{arith}
 use lib.ListN.{length}
 use Rattle.listing.proofs.Strikes.{raised}
 use Rattle.listing.specs.Listing.{Line, Listing, Said, entry, raise, ring, says, told}
+use Rattle.refusal.specs.declared.Refusal.{Refusal}
 use Rattle.refusal.specs.declared.Refusal.TheVariants.{Ended as HasEnded, Spent}
+use Rattle.std.specs.Prelude.{Err, Ok, Result}
 use Rattle.walk.specs.Moves.{Move, Rules, answer, free, move_at, trial}
 use Rattle.walk.specs.Step.{after, answer_numbers, answered, run, said_by, stepped, told_by}
 use Rattle.walk.specs.declared.Answer.{Answer}
-use Rattle.walk.specs.declared.Answer.TheVariants.{None, Refused, Ring}
+use Rattle.walk.specs.declared.Answer.TheVariants.{None, Ring}
 use Rattle.walk.specs.declared.Standing.TheVariants.{Ended}
 use Rattle.walk.specs.declared.Stepped.{Stepped}
 use Rattle.walk.specs.declared.Walk.{Walk}
 
 -- an answer in the book's terms
-abbrev pub said_as : Answer → Walk → Said
+abbrev pub said_as : Result Answer Refusal → Walk → Said
 said_as a w = (told_by (answer_numbers a w 0 0)).said
 
-pub told_as : (a : Answer) (w : Walk) (p t : ℕ) → told_by (answer_numbers a w p t) ≡ told (said_as a w) t
-told_as Ring w p t = refl
-told_as None w p t = refl
-told_as (Refused r) w p t = refl
+pub told_as : (a : Result Answer Refusal) (w : Walk) (p t : ℕ) → told_by (answer_numbers a w p t) ≡ told (said_as a w) t
+told_as (Ok Ring) w p t = refl
+told_as (Ok None) w p t = refl
+told_as (Err r) w p t = refl
 
 -- a row that is not empty is a ring
 pub said_row : (row : List ℕ) → 0 < length row → said_by 0 row ≡ says (ring row)
@@ -30,7 +32,7 @@ said_row [] h = absurd (omega arith)
 said_row (x ∷ row) h = refl
 
 -- an ended walk: 20, no change
-pub run_ended : (R : Rules) (w : Walk) (f k t : ℕ) → 0 < f → w.at ≡ Ended → run R f k t w ≡ stepped w (Refused HasEnded) t
+pub run_ended : (R : Rules) (w : Walk) (f k t : ℕ) → 0 < f → w.at ≡ Ended → run R f k t w ≡ stepped w (Err HasEnded) t
 unfolding run move_at
 run_ended R w zero k t h e = absurd (omega arith)
 run_ended R w (suc f) k t h e = ap (λ s. after (move_at R s w) k t w (run R f)) e
@@ -40,11 +42,11 @@ module _ (R : Rules) (Good Fit : Walk → Type 0) (stands : Walk → Listing) (s
   pub data Keeps (w : Walk) : Move → Type 0 where
     keeps_free : {v : Walk} → Good v → stands w ≡ stands v → size v < size w → Keeps w (free v)
     keeps_trial : {v : Walk} → Good v → Fit w → stands w ≡ raise 1 (stands v) → size v < size w → Keeps w (trial v)
-    keeps_answer : {a : Answer} {v : Walk} {l : Line} → Fit (answered a v) → said_as a (answered a v) ≡ says l → stands w ≡ entry l 0 (stands (answered a v)) → Keeps w (answer a v)
+    keeps_answer : {a : Result Answer Refusal} {v : Walk} {l : Line} → Fit (answered a v) → said_as a (answered a v) ≡ says l → stands w ≡ entry l 0 (stands (answered a v)) → Keeps w (answer a v)
 
   -- what k trials more make of a walk that owes o of them to s, after t
   pub data Ran (k t : ℕ) (s : Line) (o : ℕ) (rest : Listing) (r : Stepped) : Type 0 where
-    spent : k < o → r.answer ≡ Refused Spent → r.trials ≡ t + k → Fit r.walk → stands r.walk ≡ entry s (o - k) rest → Ran k t s o rest r
+    spent : k < o → r.answer ≡ Err Spent → r.trials ≡ t + k → Fit r.walk → stands r.walk ≡ entry s (o - k) rest → Ran k t s o rest r
     given : o ≤ k → said_as r.answer r.walk ≡ says s → r.trials ≡ t + o → Fit r.walk → stands r.walk ≡ rest → Ran k t s o rest r
 
   -- one trial earlier

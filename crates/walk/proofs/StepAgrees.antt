@@ -24,7 +24,7 @@ use Rattle.walk.specs.Fit.{fit_at}
 use Rattle.walk.specs.Moves.{Rules, row_of}
 use Rattle.walk.specs.Step.{enough, run, step_numbers, step_of, stepped, told_by}
 use Rattle.walk.specs.ToCome.{first_at, lines_at, rows_at, stands}
-use Rattle.walk.specs.declared.Answer.TheVariants.{Refused}
+use Rattle.std.specs.Prelude.{Err}
 use Rattle.walk.specs.declared.Standing.{Standing}
 use Rattle.walk.specs.declared.Standing.TheVariants.{Down, Ended, Given, Limit, Up}
 use Rattle.walk.specs.declared.Stepped.{Stepped}
@@ -98,14 +98,14 @@ module _ (R : Rules) (w : Walk) (a : ℕ) where
   fit_step f = rw f.test
 
   -- an ended walk: 20, no trial, no change
-  ended_agrees : Fit R w → w.at ≡ Ended → Agrees R w a (stepped w (Refused HasEnded) 0)
+  ended_agrees : Fit R w → w.at ≡ Ended → Agrees R w a (stepped w (Err HasEnded) 0)
   unfolding listing_step
   ended_agrees f e = record { tells = rw over_now; left = rw over_now; fits = f }
     where
       over_now : stands R w ≡ over
       over_now = ended_stands R w e
 
-  pub ended_step : Fit R w → w.at ≡ Ended → step_of R w a ≡ stepped w (Refused HasEnded) 0
+  pub ended_step : Fit R w → w.at ≡ Ended → step_of R w a ≡ stepped w (Err HasEnded) 0
   ended_step f e = fit_step f ∙ run_ended R w (enough w.n) a 0 (enough_some w.n) e
 
   -- any other: the first of what is to come, or spent

@@ -1,8 +1,7 @@
 -- The loop of a step: what it keeps from one turn to the next.
 use mathlib.Core.Bool.{true, false}
 use mathlib.Core.List.{List}
-use mathlib.Core.Logic.{inr}
-use mathlib.Core.Path.{ap, subst, sym, ◌∙◌, ◌≡◌}
+use mathlib.Core.Path.{subst, sym, ◌≡◌}
 use Prim.Native.Nat.{ℕ, ◌-◌, ◌≤◌}
 use native.Mathlib.Nat.{le_refl}
 use native.Mathlib.Omega.{arith}
@@ -12,19 +11,15 @@ use Rattle.prefix.proofs.CarriedLaws.{knows_fewer}
 use Rattle.prefix.specs.InnerCarried.{Knows, KnowsPrefixes}
 use Rattle.prefix.specs.declared.carried.Known.{Known}
 use Rattle.refusal.specs.declared.Refusal.TheVariants.{Unfit}
+use Rattle.std.specs.Prelude.{Err, None}
 use Rattle.walk.proofs.Invariant.{Fit, fit_at_lem, fit_sound}
 use Rattle.walk.proofs.MoveCases.{good_long, good_symbols}
-use Rattle.walk.proofs.Resuming.{saying_resumes}
-use Rattle.walk.proofs.StepAgrees.{fit-placed, fit_step, step_agrees}
-use Rattle.walk.specs.InnerCourse.{Fitting, Good, Informed, Resumes, before, landed, rest, resumed, saying}
+use Rattle.walk.proofs.StepAgrees.{fit-placed, fit_step}
+use Rattle.walk.specs.InnerCourse.{Fitting, Good, Informed, Resumes, before, landed, rest}
 use Rattle.walk.specs.Fit.{fit}
 use Rattle.walk.specs.Moves.{row_of, rules}
-use Rattle.walk.specs.Step.{keeps, leaves, step_of, stepped}
-use Rattle.walk.specs.declared.Answer.{Answer}
-use Rattle.walk.specs.declared.Answer.TheVariants.{Refused, Ring}
+use Rattle.walk.specs.Step.{step_of, stepped}
 use Rattle.walk.specs.declared.Reached.{Reached}
-use Rattle.walk.specs.declared.Said.{Said}
-use Rattle.walk.specs.declared.Said.TheVariants.{Nothing}
 use Rattle.walk.specs.declared.Standing.{Standing}
 use Rattle.walk.specs.declared.Standing.TheVariants.{Down, Ended, Given, Limit, Up}
 use Rattle.walk.specs.declared.Walk.{Walk}
@@ -32,7 +27,7 @@ use Rattle.words.proofs.Alphabet.{within_take}
 use Rattle.words.specs.Symbols.{Within}
 use Rattle.refusal.specs.Verdicts.{most_stations}
 
-pub unfit_step : (allowance : ℕ) (w : Walk) → fit rules w ≡ false → stepped w (Refused Unfit) 0 ≡ step_of rules w allowance
+pub unfit_step : (allowance : ℕ) (w : Walk) → fit rules w ≡ false → stepped w (Err Unfit) 0 ≡ step_of rules w allowance
 unfolding step_of
 unfit_step allowance w e = rw e
 
@@ -40,17 +35,6 @@ unfit_step allowance w e = rw e
 pub record Going (first : Walk) (allowance : ℕ) (w : Walk) (left : ℕ) : Type 0 where
   pub fits : left ≤ allowance
   pub same : rest allowance left w ≡ step_of rules first allowance
-
--- ---- what is handed back
-
--- an answer as the code puts it together: the walk with the row kept then, and the place
-pub returned : (v : Walk) (x : Answer) (kept : List ℕ) (p t : ℕ) → kept ≡ keeps x v → p ≡ leaves x v
-    → record { walk = record { n = v.n; d = v.d; kind = v.kind; row = v.row; at = v.at; kept = kept }; answer = x; place = p; trials = t } ≡ stepped v x t
-returned v x kept p t e f = rw (e, f)
-
--- a ring that a step gives is in a whole array
-pub ring_whole : (first : Walk) (allowance : ℕ) → Fit rules first → (v : Walk) (t : ℕ) → stepped v Ring t ≡ step_of rules first allowance → length v.row ≡ most_stations
-ring_whole first allowance f v t e = (subst (λ r. Fit rules r.walk) (sym e) (step_agrees rules first allowance f).fits).long
 
 -- ---- the loop begins
 
@@ -89,25 +73,8 @@ module _ (allowance : ℕ) (w : Walk) (e : fit rules w ≡ true) (l : length w.r
   pub going_first : Going w allowance w allowance
   going_first = let m : allowance - allowance ≡ 0 = omega arith in record { fits = le_refl allowance; same = rw m (sym (fit_step rules w allowance fitting)) }
 
--- ---- one turn
-
-module _ {first : Walk} {allowance : ℕ} {w : Walk} {left : ℕ} (g : Going first allowance w left) (r : Reached) (q : Resumes w left r) where
-  pub turn_fits : r.left ≤ allowance
-  turn_fits = omega (arith, q.fewer, g.fits)
-
-  turn_same : (s : Said) → r.said ≡ s → resumed s allowance r.left (landed w r) ≡ step_of rules first allowance
-  turn_same s e = sym (q.same allowance g.fits ∙ ap (λ t. resumed t allowance r.left (landed w r)) e) ∙ g.same
-
-  -- the answer
-  pub turn_says : (x : Answer) → r.said ≡ saying x → stepped (landed w r) x (allowance - r.left) ≡ step_of rules first allowance
-  turn_says x e = sym (saying_resumes x allowance r.left (landed w r)) ∙ turn_same (saying x) e
-
-  -- a ring of another kind
-  pub turn_again : r.said ≡ Nothing → Going first allowance (landed w r) r.left
-  turn_again e = record { fits = turn_fits; same = turn_same Nothing e }
-
 -- where a ring of another kind was found
-module _ {w : Walk} {left : ℕ} {r : Reached} (q : Resumes w left r) (e : r.said ≡ Nothing) where
+module _ {w : Walk} {left : ℕ} {r : Reached} (q : Resumes w left r) (e : r.said ≡ None) where
   good : Good rules (landed w r)
   good = q.good e
 
@@ -122,10 +89,3 @@ module _ {w : Walk} {left : ℕ} {r : Reached} (q : Resumes w left r) (e : r.sai
 
   pub struck_symbols : Within 2 (row_of (landed w r))
   struck_symbols = within_take w.n r.row (good_symbols good)
-
-  pub struck_informed : (prefixes : List ℕ) (known : Known) → KnowsPrefixes (row_of (landed w r)) prefixes → Knows (row_of (landed w r)) known → Informed (landed w r) prefixes known
-  struck_informed prefixes known t k = record {
-    ready = record { sound = good.sound; placed = inr good.placed };
-    table = t;
-    knows = subst (λ s. Knows (take (before s w.n) r.row) known) (sym (q.given e)) k;
-  }

@@ -1,5 +1,5 @@
 -- What document 01 claims of a walk, each claim as a statement of its own.
-use Rattle.std.specs.Prelude.{false, true, ◌&&◌, List, [], ◌++◌, ◌∷◌, ◌↔◌, ◌⊎◌, ◌≡◌, ℕ, ◌*◌, ◌+◌, ◌-◌, ◌<◌, ◌^◌, ◌≤◌, get_or, length}
+use Rattle.std.specs.Prelude.{false, true, ◌&&◌, List, [], ◌++◌, ◌∷◌, ◌↔◌, ◌⊎◌, ◌≡◌, ℕ, ◌*◌, ◌+◌, ◌-◌, ◌<◌, ◌^◌, ◌≤◌, get_or, length, Result, Ok, Err}
 use Rattle.density.specs.Choose.{choose}
 use Rattle.density.specs.Lengths.{HowMany, at_most, drawer_length, exactly}
 use Rattle.density.specs.Necklaces.{necklaces, of_kind, wanted}
@@ -16,7 +16,7 @@ use Rattle.walk.specs.Step.{handed, step_due, step_of, told_by, trials_needed, w
 use Rattle.walk.specs.ToCome.{stands}
 use Rattle.listing.specs.Totals.{AtMost, SaysNone, Starts, listing_left, named, owed, totals, trials_told}
 use Rattle.walk.specs.declared.Answer.{Answer}
-use Rattle.walk.specs.declared.Answer.TheVariants.{None, Refused, Ring}
+use Rattle.walk.specs.declared.Answer.TheVariants.{None, Ring}
 use Rattle.walk.specs.declared.Standing.TheVariants.{Ended, Given, Limit}
 use Rattle.walk.specs.declared.Stepped.{Stepped}
 use Rattle.walk.specs.declared.Walk.{Walk}
@@ -94,10 +94,10 @@ AnsweredExactly =
 
 -- "A ring given is measured against [the kept row] and then replaces it. None carries 0 and makes the kept row zeros." A refused step
 -- carries 0 and leaves it as it was.
-abbrev pub KeptBy : Answer → Walk → Stepped → Type 0
-KeptBy Ring w r = (r.place ≡ first_difference (kept_of w) (row_of r.walk)) × (r.walk.kept ≡ r.walk.row)
-KeptBy None w r = (r.place ≡ 0) × (r.walk.kept ≡ zeros (length w.kept))
-KeptBy (Refused x) w r = (r.place ≡ 0) × (r.walk.kept ≡ w.kept)
+abbrev pub KeptBy : Result Answer Refusal → Walk → Stepped → Type 0
+KeptBy (Ok Ring) w r = (r.place ≡ first_difference (kept_of w) (row_of r.walk)) × (r.walk.kept ≡ r.walk.row)
+KeptBy (Ok None) w r = (r.place ≡ 0) × (r.walk.kept ≡ zeros (length w.kept))
+KeptBy (Err x) w r = (r.place ≡ 0) × (r.walk.kept ≡ w.kept)
 
 abbrev pub KeptStep : Type 0
 KeptStep = (w : Walk) (a : ℕ) → let r = step_of rules w a in KeptBy r.answer w r
@@ -107,10 +107,10 @@ abbrev pub RefusedTells : Type 0
 RefusedTells = (w : Walk) (a : ℕ) → let s = step_due rules w a in (s.place ≡ 0) × (0 < s.number → (s.row ≡ []) × (s.leaves ≡ 0))
 
 -- "Otherwise the row is the answer and the walk stands at Given." "None: .. the row becomes zeros, the walk is Ended."
-abbrev pub StandsBy : Answer → Walk → Type 0
-StandsBy Ring w = w.at ≡ Given
-StandsBy None w = (w.at ≡ Ended) × ((i : ℕ) → get_or w.row i 0 ≡ 0)
-StandsBy (Refused x) w = Unit
+abbrev pub StandsBy : Result Answer Refusal → Walk → Type 0
+StandsBy (Ok Ring) w = w.at ≡ Given
+StandsBy (Ok None) w = (w.at ≡ Ended) × ((i : ℕ) → get_or w.row i 0 ≡ 0)
+StandsBy (Err x) w = Unit
 
 -- where a step leaves the walk; n, d and kind stay
 abbrev pub StandsAfter : Type 0

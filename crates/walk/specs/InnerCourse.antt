@@ -1,5 +1,5 @@
 -- What the parts of a step rely on, and what they promise: that the step goes on from where they have come. Not of document 01.
-use Rattle.std.specs.Prelude.{true, List, ◌⊎◌, ◌≡◌, ℕ, suc, zero, ◌*◌, ◌+◌, ◌-◌, ◌<◌, ◌≤◌, drop, length, take}
+use Rattle.std.specs.Prelude.{true, List, ◌⊎◌, ◌≡◌, ℕ, suc, zero, ◌*◌, ◌+◌, ◌-◌, ◌<◌, ◌≤◌, drop, length, take, Option, Some, None, Result}
 use Rattle.density.proofs.Binary.{Binary}
 use Rattle.density.specs.Necklaces.{begins, is_necklace_of}
 use Rattle.density.specs.Rows.{is_padded}
@@ -7,14 +7,12 @@ use Rattle.prefix.specs.InnerCarried.{Knows, KnowsPrefixes}
 use Rattle.prefix.specs.declared.carried.Known.{Known}
 use Rattle.words.specs.Symbols.{Within, all_up_to}
 use Rattle.refusal.specs.Verdicts.{most_stations}
+use Rattle.refusal.specs.declared.Refusal.{Refusal}
 use Rattle.walk.specs.Moves.{Rules, moved, row_of, rules}
 use Rattle.walk.specs.Step.{enough, run, stepped}
 use Rattle.walk.specs.ToCome.{rows_at}
 use Rattle.walk.specs.declared.Answer.{Answer}
-use Rattle.walk.specs.declared.Answer.TheVariants.{None, Refused, Ring}
 use Rattle.walk.specs.declared.Reached.{Reached}
-use Rattle.walk.specs.declared.Said.{Said}
-use Rattle.walk.specs.declared.Said.TheVariants.{None as SaysNone, Nothing, Refused as SaysRefused, Ring as SaysRing}
 use Rattle.walk.specs.declared.Standing.{Standing}
 use Rattle.walk.specs.declared.Standing.TheVariants.{Limit, Down, Up, Given, Ended}
 use Rattle.walk.specs.declared.Stepped.{Stepped}
@@ -100,23 +98,15 @@ rest a k w = run rules (enough w.n) k (a - k) w
 abbrev pub landed : Walk → Reached → Walk
 landed w r = moved w r.row r.at
 
--- the step's answer, as a part of it says it
-abbrev pub saying : Answer → Said
-saying Ring = SaysRing
-saying None = SaysNone
-saying (Refused r) = SaysRefused r
-
 -- the step goes on from there, or has its answer
-abbrev pub resumed : Said → ℕ → ℕ → Walk → Stepped
-resumed Nothing a k w = rest a k w
-resumed SaysRing a k w = stepped w Ring (a - k)
-resumed SaysNone a k w = stepped w None (a - k)
-resumed (SaysRefused r) a k w = stepped w (Refused r) (a - k)
+abbrev pub resumed : Option (Result Answer Refusal) → ℕ → ℕ → Walk → Stepped
+resumed None a k w = rest a k w
+resumed (Some x) a k w = stepped w x (a - k)
 
 -- r is on the way of w's step, with that many trials left; where nothing is said, at a ring of another kind, with fewer moves to come
 pub record Resumes (w : Walk) (left : ℕ) (r : Reached) : Type 0 where
   pub same : (a : ℕ) → left ≤ a → rest a left w ≡ resumed r.said a r.left (landed w r)
   pub fewer : r.left ≤ left
-  pub good : r.said ≡ Nothing → Good rules (landed w r)
-  pub given : r.said ≡ Nothing → r.at ≡ Given
-  pub smaller : r.said ≡ Nothing → size (landed w r) < size w
+  pub good : r.said ≡ None → Good rules (landed w r)
+  pub given : r.said ≡ None → r.at ≡ Given
+  pub smaller : r.said ≡ None → size (landed w r) < size w

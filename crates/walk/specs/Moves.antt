@@ -1,7 +1,8 @@
 -- "A walk, trial by trial": its moves. A trial asks the definition `begins`.
 -- Within a step a walk may also stand at Down 0, where none is left, and at Up (n + 1), where the row is found.
-use Rattle.std.specs.Prelude.{Bool, true, false, List, [], ◌∷◌, ◌++◌, ℕ, zero, suc, ◌-◌, length, get_or, take, set, ltb}
+use Rattle.std.specs.Prelude.{Bool, true, false, List, [], ◌∷◌, ◌++◌, ℕ, zero, suc, ◌-◌, length, get_or, take, set, ltb, Result, Ok, Err}
 use Rattle.words.specs.Symbols.{zeros}
+use Rattle.refusal.specs.declared.Refusal.{Refusal}
 use Rattle.refusal.specs.declared.Refusal.TheVariants.{Ended as HasEnded}
 use Rattle.refusal.specs.Verdicts.{most_stations}
 use Rattle.density.specs.Necklaces.{is_necklace_of, is_kind, of_kind, begins}
@@ -9,7 +10,7 @@ use Rattle.walk.specs.declared.Standing.{Standing}
 use Rattle.walk.specs.declared.Standing.TheVariants.{Limit, Down, Up, Given, Ended}
 use Rattle.walk.specs.declared.Walk.{Walk}
 use Rattle.walk.specs.declared.Answer.{Answer}
-use Rattle.walk.specs.declared.Answer.TheVariants.{Ring, None, Refused}
+use Rattle.walk.specs.declared.Answer.TheVariants.{Ring, None}
 
 -- what a walk takes from outside: the most stations, which kinds there are, and which shelved rows are of a kind
 pub record Rules : Type 0 where
@@ -25,7 +26,7 @@ rules = record { most = most_stations; known = is_kind; of_kind = of_kind }
 pub data Move : Type 0 where
   free : Walk → Move
   trial : Walk → Move
-  answer : Answer → Walk → Move
+  answer : Result Answer Refusal → Walk → Move
 
 -- the walk with another row, standing elsewhere; the row kept stays
 abbrev pub moved : Walk → List ℕ → Standing → Walk
@@ -62,7 +63,7 @@ up_tried false i w = moved w (set w.row i 0) (Up (suc (suc i)))
 -- "Found: in kind 2 with period below n, go on below. Otherwise the row is the answer and the walk stands at Given."
 -- Going on below starts from Given.
 abbrev pub found_move : Bool → Walk → Move
-found_move true w = answer Ring (moved w w.row Given)
+found_move true w = answer (Ok Ring) (moved w w.row Given)
 found_move false w = free (moved w w.row Given)
 
 -- "At p = n+1 the row is found. Else try the first p-1 symbols and then 1."
@@ -82,9 +83,9 @@ ended w = moved w (zeros (length w.row)) Ended
 -- the move of a walk that stands at a place
 unfoldable pub move_at : Rules → Standing → Walk → Move
 move_at R Limit w = limit_move (is_necklace_of w.d (row_of w)) w
-move_at R (Down zero) w = answer None (ended w)
+move_at R (Down zero) w = answer (Ok None) (ended w)
 move_at R (Down (suc q)) w = down_move (get_or w.row q 0) q w
-move_at R (Up zero) w = answer None (ended w)
+move_at R (Up zero) w = answer (Ok None) (ended w)
 move_at R (Up (suc i)) w = up_move R (ltb i w.n) i w
 move_at R Given w = free (gone_below w.d w)
-move_at R Ended w = answer (Refused HasEnded) w
+move_at R Ended w = answer (Err HasEnded) w

@@ -1,11 +1,9 @@
 -- "Open a walk (n, d, kind, limit)": the fresh walk, or a refusal.
 use Rattle.std.specs.Prelude.{List, ◌++◌, ℕ, ◌-◌}
 use Rattle.words.specs.Symbols.{zeros}
-use Rattle.refusal.specs.Outcomes.{Outcome, given}
 use Rattle.refusal.specs.Verdicts.{Verdict, accepted, refused}
 use Rattle.walk.specs.declared.Standing.TheVariants.{Limit, Ended}
 use Rattle.walk.specs.declared.Walk.{Walk}
-use Rattle.walk.specs.declared.OpenAnswer.{OpenAnswer}
 use Rattle.walk.specs.Moves.{Rules}
 -- what is refused: 1, 2, 5, 4, 3
 unfoldable pub use Rattle.density.specs.Drawers.{open_verdict}
@@ -23,8 +21,3 @@ refused_walk R = record { n = 1; d = 0; kind = 1; row = zeros R.most; at = Ended
 abbrev pub open_walk : Verdict → Rules → ℕ → ℕ → ℕ → List ℕ → Walk
 open_walk accepted R n d kind limit = fresh R n d kind limit
 open_walk (refused r) R n d kind limit = refused_walk R
-
--- document 01's number for each answer: no value is returned beside the walk
-abbrev pub open_outcome : OpenAnswer → Outcome Unit
-open_outcome OpenAnswer.Open = given tt
-open_outcome (OpenAnswer.Refused r) = Outcome.refused r

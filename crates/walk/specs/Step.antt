@@ -1,12 +1,13 @@
 -- "A step moves until it has an answer, or a trial is due and the allowance is used up."
-use Rattle.std.specs.Prelude.{Bool, true, false, List, [], ◌∷◌, ℕ, zero, suc, ◌+◌, ◌*◌, ◌^◌, length}
+use Rattle.std.specs.Prelude.{Bool, true, false, List, [], ◌∷◌, ℕ, zero, suc, ◌+◌, ◌*◌, ◌^◌, length, Result, Ok, Err}
 use Rattle.words.specs.Difference.{first_difference}
 use Rattle.words.specs.Symbols.{zeros}
+use Rattle.refusal.specs.declared.Refusal.{Refusal}
 use Rattle.refusal.specs.declared.Refusal.TheVariants.{Spent, Unfit}
 use Rattle.refusal.specs.Refusals.{number_of, place_of}
 use Rattle.walk.specs.declared.Walk.{Walk}
 use Rattle.walk.specs.declared.Answer.{Answer}
-use Rattle.walk.specs.declared.Answer.TheVariants.{Ring, None, Refused}
+use Rattle.walk.specs.declared.Answer.TheVariants.{Ring, None}
 use Rattle.walk.specs.declared.Stepped.{Stepped}
 use Rattle.walk.specs.Moves.{Rules, Move, free, trial, answer, kept_of, move_at, row_of}
 use Rattle.walk.specs.Fit.{fit}
@@ -16,23 +17,23 @@ use Rattle.listing.specs.Places.{Placed, placed}
 -- ---- the answer, and the row kept
 
 -- the place that an answer carries: where a ring first differs from the row kept, and 0 else
-abbrev pub leaves : Answer → Walk → ℕ
-leaves Ring w = first_difference (kept_of w) (row_of w)
-leaves None w = 0
-leaves (Refused r) w = 0
+abbrev pub leaves : Result Answer Refusal → Walk → ℕ
+leaves (Ok Ring) w = first_difference (kept_of w) (row_of w)
+leaves (Ok None) w = 0
+leaves (Err r) w = 0
 
 -- "A ring given is measured against it and then replaces it. None carries 0 and makes the kept row zeros."
-abbrev pub keeps : Answer → Walk → List ℕ
-keeps Ring w = w.row
-keeps None w = zeros (length w.kept)
-keeps (Refused r) w = w.kept
+abbrev pub keeps : Result Answer Refusal → Walk → List ℕ
+keeps (Ok Ring) w = w.row
+keeps (Ok None) w = zeros (length w.kept)
+keeps (Err r) w = w.kept
 
 -- the walk after an answer
-abbrev pub answered : Answer → Walk → Walk
+abbrev pub answered : Result Answer Refusal → Walk → Walk
 answered a w = record { n = w.n; d = w.d; kind = w.kind; row = w.row; at = w.at; kept = keeps a w }
 
 -- what a step hands back that has come to w and answers so, after t trials
-abbrev pub stepped : Walk → Answer → ℕ → Stepped
+abbrev pub stepped : Walk → Result Answer Refusal → ℕ → Stepped
 stepped w a t = record { walk = answered a w; answer = a; place = leaves a w; trials = t }
 
 -- ---- the moves
@@ -40,13 +41,13 @@ stepped w a t = record { walk = answered a w; answer = a; place = leaves a w; tr
 -- one move, with k trials allowed and t made; `on` takes the walk further
 abbrev pub after : Move → ℕ → ℕ → Walk → (ℕ → ℕ → Walk → Stepped) → Stepped
 after (free v) k t w on = on k t v
-after (trial v) zero t w on = stepped w (Refused Spent) t
+after (trial v) zero t w on = stepped w (Err Spent) t
 after (trial v) (suc k) t w on = on k (suc t) v
 after (answer a v) k t w on = stepped v a t
 
 -- at most f moves
 unfoldable pub run : Rules → ℕ → ℕ → ℕ → Walk → Stepped
-run R zero k t w = stepped w (Refused Spent) t
+run R zero k t w = stepped w (Err Spent) t
 run R (suc f) k t w = after (move_at R w.at w) k t w (run R f)
 
 -- More moves than a step ever makes: at most 2 ^ n rows are to come, and fewer than 2 n + 4 moves lie between two of them.
@@ -56,7 +57,7 @@ enough n = (2 ^ n + 2) * (2 * n + 4)
 -- "Checking a record for 22 counts no trial." After 22 the walk comes back as handed in.
 abbrev pub step_fit : Rules → Bool → Walk → ℕ → Stepped
 step_fit R true w a = run R (enough w.n) a 0 w
-step_fit R false w a = stepped w (Refused Unfit) 0
+step_fit R false w a = stepped w (Err Unfit) 0
 
 unfoldable pub step_of : Rules → Walk → ℕ → Stepped
 step_of R w a = step_fit R (fit R w) w a
@@ -89,10 +90,10 @@ pub record StepNumbers : Type 0 where
   pub trials : ℕ
 
 -- the numbers of each case of the answer: "each step returns the number [of trials] it made", refused or not
-abbrev pub answer_numbers : Answer → Walk → ℕ → ℕ → StepNumbers
-answer_numbers Ring w p t = record { number = 0; place = 0; row = row_of w; leaves = p; trials = t }
-answer_numbers None w p t = record { number = 0; place = 0; row = []; leaves = p; trials = t }
-answer_numbers (Refused r) w p t = record { number = number_of r; place = place_of r; row = []; leaves = p; trials = t }
+abbrev pub answer_numbers : Result Answer Refusal → Walk → ℕ → ℕ → StepNumbers
+answer_numbers (Ok Ring) w p t = record { number = 0; place = 0; row = row_of w; leaves = p; trials = t }
+answer_numbers (Ok None) w p t = record { number = 0; place = 0; row = []; leaves = p; trials = t }
+answer_numbers (Err r) w p t = record { number = number_of r; place = place_of r; row = []; leaves = p; trials = t }
 
 abbrev pub step_numbers : Stepped → StepNumbers
 step_numbers s = answer_numbers s.answer s.walk s.place s.trials

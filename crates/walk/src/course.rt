@@ -4,7 +4,7 @@ ghost use Rattle.prefix.specs.InnerCarried.{Knows, KnowsPrefixes};
 ghost use Rattle.walk.specs.Moves.{row_of, rules, gone_below};
 ghost use Rattle.walk.specs.InnerCourse.{Good, Informed, Resumes};
 
-use crate::{Reached, Said, Standing, Walk};
+use crate::{Answer, Reached, Standing, Walk};
 use prefix::carried::{Known, Prefixes};
 use refusal::Refusal;
 
@@ -25,7 +25,7 @@ impl Walk {
                 row,
                 at,
                 left,
-                said: Said::Refused(Refusal::Ended),
+                said: Some(Err(Refusal::Ended)),
             },
         }
     }
@@ -100,18 +100,17 @@ impl Walk {
         let n = self.n;
         let d = self.d;
         let mut row = self.row;
-        let mut p = from;
         let mut left = allowed;
         let mut known = first;
-        while 0 < p {
-            let q = p - 1;
+        for q in (0..from).rev() {
             if row[q] != 0 {
+                let p = q + 1;
                 if left == 0 {
                     return Reached {
                         row,
                         at: Standing::Down(p),
                         left,
-                        said: Said::Refused(Refusal::Spent),
+                        said: Some(Err(Refusal::Spent)),
                     };
                 }
                 left -= 1;
@@ -128,7 +127,6 @@ impl Walk {
                 row[q] = 1;
             }
             known = known.shorter(prefixes, &row[..q]);
-            p = q;
         }
         let walk = Walk {
             row,
@@ -146,30 +144,29 @@ impl Walk {
         let n = self.n;
         let d = self.d;
         let mut row = self.row;
-        let mut p = from;
         let mut left = allowed;
         let mut known = first;
-        while p <= n {
+        // over places; by indices it was tried, slower
+        for p in from..n + 1 {
+            let i = p - 1;
             if left == 0 {
                 return Reached {
                     row,
                     at: Standing::Up(p),
                     left,
-                    said: Said::Refused(Refusal::Spent),
+                    said: Some(Err(Refusal::Spent)),
                 };
             }
             left -= 1;
-            let i = p - 1;
             row[i] = 1;
             if !known.ask_with_one(n, d, &row[..p]) {
                 row[i] = 0;
             }
             known = known.longer(&row[..p]);
-            p += 1;
         }
         let walk = Walk {
             row,
-            at: Standing::Up(p),
+            at: Standing::Up(n + 1),
             ..self
         };
         walk.found(&row[..n], known, left)
@@ -187,14 +184,14 @@ impl Walk {
                 row,
                 at: Standing::Given,
                 left,
-                said: Said::Ring,
+                said: Some(Ok(Answer::Ring)),
             };
         }
         Reached {
             row,
             at: Standing::Given,
             left,
-            said: Said::Nothing,
+            said: None,
         }
     }
 
@@ -207,7 +204,7 @@ impl Walk {
             row: [0u8; refusal::MOST_STATIONS],
             at: Standing::Ended,
             left,
-            said: Said::None,
+            said: Some(Ok(Answer::None)),
         }
     }
 }

@@ -8,16 +8,15 @@ ghost use Rattle.prefix.specs.InnerCarried.{Knows};
 ghost use Rattle.walk.specs.Moves.{row_of, rules};
 ghost use Rattle.walk.specs.Fit.{fit_sizes, fit_at};
 ghost use Rattle.walk.specs.Step.{step_due, step_numbers, step_of, stepped};
-ghost use Rattle.walk.specs.Opening.{open_outcome, open_verdict, open_walk, refused_walk};
+ghost use Rattle.walk.specs.Opening.{open_verdict, open_walk, refused_walk};
 ghost use Rattle.walk.specs.InnerCourse.{Fitting, before};
 ghost use Rattle.refusal.specs.Outcomes.{decide};
 
-use density::drawers::Checked;
 use prefix::carried::Known;
 use refusal::Refusal;
 
 // Where a walk stands.
-#[derive(Clone, Copy)]
+#[derive(Clone, Copy, PartialEq, Eq)]
 pub enum Standing {
     Limit,
     Down(usize),
@@ -27,8 +26,9 @@ pub enum Standing {
 }
 
 // A walk: length, density, kind, the row, the standing, and the row kept, from which the next ring is measured: the limit, then the ring
-// last given. It is taken in and handed back by each step.
-#[derive(Clone, Copy)]
+// last given. It is taken in and handed back by each step. The kind is a number, as a record with any may be handed in (22); the rows are
+// arrays with n beside them, as document 01 has the record, so that a walk is a plain value.
+#[derive(Clone, Copy, PartialEq, Eq)]
 pub struct Walk {
     pub n: usize,
     pub d: usize,
@@ -38,66 +38,36 @@ pub struct Walk {
     pub kept: [u8; refusal::MOST_STATIONS],
 }
 
-// What a step says. A ring is the walk's row.
-#[derive(Clone, Copy)]
+// What a step answers. A ring is the walk's row.
+#[derive(Clone, Copy, PartialEq, Eq)]
 pub enum Answer {
     Ring,
     None,
-    Refused(Refusal),
 }
 
 // What a step hands back. The place is where a ring leaves the row that was kept; it is 0 where they are equal and where no ring is given.
 #[derive(Clone, Copy)]
 pub struct Stepped {
     pub walk: Walk,
-    pub answer: Answer,
+    pub answer: Result<Answer, Refusal>,
     pub place: usize,
     pub trials: u64,
 }
 
-// Whether a walk was opened.
-#[derive(Clone, Copy)]
-pub enum OpenAnswer {
-    Open,
-    Refused(Refusal),
-}
-
-// What opening hands back.
+// What opening hands back: a refused one, a walk too.
 #[derive(Clone, Copy)]
 pub struct Opened {
     pub walk: Walk,
-    pub answer: OpenAnswer,
+    pub answer: Result<(), Refusal>,
 }
 
-// What a part of a step says: nothing, or the step's answer.
-#[derive(Clone, Copy)]
-pub enum Said {
-    Nothing,
-    Ring,
-    None,
-    Refused(Refusal),
-}
-
-// Where a part of a step has brought a walk, with the trials left.
+// Where a part of a step has brought a walk, with the trials left. What is said is the step's answer, if it has one.
 #[derive(Clone, Copy)]
 pub struct Reached {
     pub row: [u8; refusal::MOST_STATIONS],
     pub at: Standing,
     pub left: u64,
-    pub said: Said,
-}
-
-// One less than p, n at most, and 0 of 0.
-fn one_less(p: usize, n: usize) -> usize
-    ensures { result ≡ n - (n - (p - 1)) }
-{
-    if p == 0 {
-        return 0;
-    }
-    if n < p {
-        return n;
-    }
-    p - 1
+    pub said: Option<Result<Answer, Refusal>>,
 }
 
 impl Walk {
@@ -118,14 +88,14 @@ impl Walk {
 
     // Opens a walk of the necklaces of (n, d) of a kind, at or below a limit.
     pub fn open(n: usize, d: usize, kind: u8, limit: &[u8]) -> Opened
-        ensures answer { open_outcome result.answer ≡ decide (open_verdict n d kind limit.now) tt }
+        ensures answer { result.answer ≡ decide (open_verdict n d kind limit.now) tt }
         ensures walk { result.walk ≡ open_walk (open_verdict n d kind limit.now) rules n d kind limit.now }
     {
-        let checked = density::drawers::check_opening(n, d, kind, limit);
-        if let Checked::Refused(r) = checked {
+        let answer = density::drawers::check_opening(n, d, kind, limit);
+        if answer.is_err() {
             return Opened {
                 walk: Walk::refused(),
-                answer: OpenAnswer::Refused(r),
+                answer,
             };
         }
         let row = density::rows::padded(limit);
@@ -137,10 +107,7 @@ impl Walk {
             at: Standing::Limit,
             kept: row,
         };
-        Opened {
-            walk,
-            answer: OpenAnswer::Open,
-        }
+        Opened { walk, answer }
     }
 
     // n, d and the kind are in range.
@@ -150,7 +117,8 @@ impl Walk {
         let n = self.n;
         let d = self.d;
         let kind = self.kind;
-        refusal::are_stations(n) && d <= n && density::kinds::is_kind(kind)
+        let sized = refusal::are_stations(n) && d <= n;
+        sized && density::kinds::is_kind(kind)
     }
 
     // The rows fit where the walk stands. The symbols before that place are known; `a` is the row's n symbols, `kept` the row kept.
@@ -166,11 +134,12 @@ impl Walk {
         match at {
             Standing::Limit => true,
             Standing::Down(p) => 1 <= p && p <= n,
-            Standing::Up(p) => 2 <= p && p <= n && known.ask(n, d, row, p - 1),
-            Standing::Given => known.is_necklace_of(d, a) && known.is_of_kind(kind, a),
-            Standing::Ended => {
-                density::rows::highest(&row) == 0 && density::rows::highest(kept) == 0
+            Standing::Up(p) => {
+                let placed = 2 <= p && p <= n;
+                placed && known.ask(n, d, row, p - 1)
             }
+            Standing::Given => known.is_necklace_of(d, a) && known.is_of_kind(kind, a),
+            Standing::Ended => density::rows::highest_of_two(&row, kept) == 0,
         }
     }
 
@@ -182,8 +151,7 @@ impl Walk {
         let at = self.at;
         match at {
             Standing::Limit => n,
-            Standing::Down(p) => one_less(p, n),
-            Standing::Up(p) => one_less(p, n),
+            Standing::Down(p) | Standing::Up(p) => p.saturating_sub(1).min(n),
             Standing::Given => n,
             Standing::Ended => 0,
         }
@@ -191,11 +159,11 @@ impl Walk {
 
     // Refusal 22.
     fn unfit(self) -> Stepped
-        ensures { result ≡ stepped self (Answer.Refused Refusal.Unfit) 0 }
+        ensures { result ≡ stepped self (Err Refusal.Unfit) 0 }
     {
         Stepped {
             walk: self,
-            answer: Answer::Refused(Refusal::Unfit),
+            answer: Err(Refusal::Unfit),
             place: 0,
             trials: 0,
         }
@@ -233,7 +201,7 @@ impl Walk {
             let said = reached.said;
             match said {
                 // measured from the row kept, which it replaces
-                Said::Ring => {
+                Some(Ok(Answer::Ring)) => {
                     let compared = words::compare(&kept[..n], &row[..n]);
                     return Stepped {
                         walk: Walk {
@@ -242,12 +210,12 @@ impl Walk {
                             kept: row,
                             ..self
                         },
-                        answer: Answer::Ring,
+                        answer: Ok(Answer::Ring),
                         place: compared.place,
                         trials,
                     };
                 }
-                Said::None => {
+                Some(Ok(Answer::None)) => {
                     return Stepped {
                         walk: Walk {
                             row,
@@ -255,12 +223,12 @@ impl Walk {
                             kept: [0u8; refusal::MOST_STATIONS],
                             ..self
                         },
-                        answer: Answer::None,
+                        answer: Ok(Answer::None),
                         place: 0,
                         trials,
                     };
                 }
-                Said::Refused(r) => {
+                Some(Err(r)) => {
                     return Stepped {
                         walk: Walk {
                             row,
@@ -268,12 +236,12 @@ impl Walk {
                             kept,
                             ..self
                         },
-                        answer: Answer::Refused(r),
+                        answer: Err(r),
                         place: 0,
                         trials,
                     };
                 }
-                Said::Nothing => {}
+                None => {}
             }
             // a ring of another kind was found
             prefixes = prefix::carried::prefixes_of(&row[..n]);

@@ -1,4 +1,5 @@
-// Walks a drawer from n ones, up to 2000 rings, and prints the rings and the trials. Read: the bytes n, d, kind, and the rings wanted in hundreds.
+// Walks a drawer from n ones, up to 2000 rings, and prints the rings and the trials. Read: the bytes n, d, kind, and
+// the rings wanted in hundreds.
 #![tactic(auto)]
 
 ghost use Rattle.std.specs.Prelude.{◌≤◌};
@@ -14,6 +15,7 @@ fn print_counts(rings: u64, trials: u64, places: usize) {
     io::write_all(1, b" rings ");
     io::print_decimal(1, trials);
     io::write_all(1, b" trials ");
+    // by `as`: no From leads from a usize to a u64
     io::print_decimal(1, places as u64);
     io::write_all(1, b" places\n");
 }
@@ -26,39 +28,22 @@ fn walk_drawer(n: usize, d: usize, kind: u8, most: u64)
     let opened = Walk::open(n, d, kind, &limit[..n]);
     let mut walk = opened.walk;
     let mut left = ALLOWANCE;
-    let mut rings: u64 = 0;
     let mut places: usize = 0;
-    while rings < most {
+    for rings in 0..most {
         let stepped = walk.step(left);
         if left < stepped.trials {
             return;
         }
         left -= stepped.trials;
         walk = stepped.walk;
-        places = std::num::wrapping_add_usize(places, stepped.place);
-        let answer = stepped.answer;
-        match answer {
-            Answer::Ring => {
-                rings += 1;
-            }
-            Answer::None => {
-                print_counts(rings, ALLOWANCE - left, places);
-                return;
-            }
-            Answer::Refused(_) => {
-                return;
-            }
+        places = places.wrapping_add(stepped.place);
+        match stepped.answer {
+            Ok(Answer::Ring) => {}
+            Ok(Answer::None) => return print_counts(rings, ALLOWANCE - left, places),
+            Err(_) => return,
         }
     }
-    print_counts(rings, ALLOWANCE - left, places);
-}
-
-fn wide(x: u8) -> usize {
-    x as usize
-}
-
-fn hundreds(x: u8) -> u64 {
-    x as u64 * 100
+    print_counts(most, ALLOWANCE - left, places);
 }
 
 fn main() {
@@ -66,8 +51,13 @@ fn main() {
     if io::read_full(0, &mut asked) < 4 {
         return;
     }
-    let n = wide(asked[0]);
-    if n <= refusal::MOST_STATIONS {
-        walk_drawer(n, wide(asked[1]), asked[2], hundreds(asked[3]));
+    let [n, d, kind, hundreds] = asked;
+    if usize::from(n) <= refusal::MOST_STATIONS {
+        walk_drawer(
+            usize::from(n),
+            usize::from(d),
+            kind,
+            u64::from(hundreds) * 100,
+        );
     }
 }

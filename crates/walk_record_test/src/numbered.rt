@@ -2,7 +2,6 @@
 ghost use Rattle.std.specs.Prelude.{◌<◌, ◌≤◌};
 ghost use Rattle.refusal.specs.Verdicts.{most_stations};
 
-use crate::outcomes;
 use crate::outcomes::Outcomes;
 use walk::{Standing, Walk};
 
@@ -25,70 +24,61 @@ fn standing_of(number: usize) -> Standing {
     }
 }
 
-// The records of n stations, numbered: kinds 0 to 4, up to n + 1 holes, all rows, all standings with places up to n + 1. The row kept is
-// one further at each number of holes, and at each round through all of these, so in as many rounds as rows each record has each row kept.
-fn record(n: usize, rows: usize, index: usize) -> Walk
-    requires n_le_most_stations { n ≤ most_stations }
-    requires rows_nonzero { 0 < rows }
-{
-    let kinds = index / 5;
-    let densities = kinds / (n + 2);
-    let row = test_rows::row_of_number(n, densities % rows);
-    let standings = densities / rows;
-    let at = standing_of(standings % (2 * n + 7));
-    let turns = standings / (2 * n + 7);
-    let kept = test_rows::row_of_number(n, std::num::wrapping_add_usize(turns, kinds));
-    Walk {
-        n,
-        d: kinds % (n + 2),
-        kind: (index % 5) as u8,
-        row,
-        at,
-        kept,
-    }
+// The records of n stations, numbered: kinds 0 to 4, up to n + 1 holes, all rows, all standings with places up to n +
+// 1. The row kept is one further at each number of holes, and at each round through all of these, so in as many rounds
+// as rows each record has each row kept.
+#[derive(Clone, Copy)]
+struct Records {
+    n: usize,
+    rows: usize,
+    count: usize,
+    ghost few_stations: { n ≤ most_stations },
+    ghost some_rows: { 0 < rows },
 }
 
-fn step_all(n: usize, rows: usize, records: usize, allowance: u64) -> Outcomes
-    requires n_le_most_stations { n ≤ most_stations }
-    requires rows_nonzero { 0 < rows }
-{
-    let mut outcomes = outcomes::nothing();
-    let mut index: usize = 0;
-    while index < records {
-        outcomes = outcomes::sum(
-            outcomes,
-            outcomes::outcome(record(n, rows, index), allowance),
-        );
-        index += 1;
+impl Records {
+    fn record(self, index: usize) -> Walk {
+        let n = self.n;
+        let kinds = index / 5;
+        let densities = kinds / (n + 2);
+        let standings = densities / self.rows;
+        let turns = standings / (2 * n + 7);
+        Walk {
+            n,
+            d: kinds % (n + 2),
+            kind: (index % 5) as u8,
+            row: test_rows::row_of_number(n, densities % self.rows),
+            at: standing_of(standings % (2 * n + 7)),
+            kept: test_rows::row_of_number(n, turns.wrapping_add(kinds)),
+        }
     }
-    outcomes
-}
 
-// Steps that are allowed up to 4 trials, or plenty.
-fn show_steps(n: usize, rows: usize, records: usize, allowance: usize)
-    requires n_le_most_stations { n ≤ most_stations }
-    requires rows_nonzero { 0 < rows }
-{
-    test_rows::print_filled(b"n # records #", &[n, records]);
-    if allowance < 5 {
-        test_rows::print_named(b" allowed ", allowance);
-    } else {
-        io::write_all(1, b" plenty allowed");
+    // Steps that are allowed up to 4 trials, or plenty.
+    fn show_steps(self, allowance: usize) {
+        let mut outcomes = Outcomes::default();
+        for index in 0..self.count {
+            outcomes = outcomes.with(self.record(index), allowance as u64);
+        }
+        test_rows::print_filled(b"n # records #", &[self.n, self.count]);
+        if allowance < 5 {
+            test_rows::print_named(b" allowed ", allowance);
+        } else {
+            io::write_all(1, b" plenty allowed");
+        }
+        outcomes.print();
     }
-    outcomes::print_outcomes(step_all(n, rows, records, allowance as u64));
 }
 
 // n stations have 5 (n + 2) (2 n + 7) records for each row and each row kept.
-fn show_all(n: usize, rows: usize, records: usize)
+fn show_all(n: usize, rows: usize, count: usize)
     requires n_le_most_stations { n ≤ most_stations }
     requires rows_nonzero { 0 < rows }
 {
-    show_steps(n, rows, records, 0);
-    show_steps(n, rows, records, 1);
-    show_steps(n, rows, records, 2);
-    show_steps(n, rows, records, 3);
-    show_steps(n, rows, records, 4);
-    show_steps(n, rows, records, 1000);
+    let records = Records { n, rows, count };
+    for allowance in 0..5 {
+        records.show_steps(allowance);
+    }
+    records.show_steps(1000);
 }
 
 pub fn show_records() {

@@ -1,10 +1,11 @@
 // What steps say of many records, added up.
-use walk::Walk;
+use refusal::{MOST_STATIONS, Refusal};
+use walk::{Answer, Walk};
 
-// Steps by their answer; how many that were refused 20 or 22 changed the record or counted trials; how many carry another place or keep
-// another row than plain search says; and the sums of trials, of the rows as numbers, of the standings' places, of the places carried and
-// of the rows kept.
-#[derive(Clone, Copy)]
+// Steps by their answer; how many that were refused 20 or 22 changed the record or counted trials; how many carry
+// another place or keep another row than plain search says; and the sums of trials, of the rows as numbers, of the
+// standings' places, of the places carried and of the rows kept.
+#[derive(Clone, Copy, Default)]
 pub struct Outcomes {
     pub rings: usize,
     pub nones: usize,
@@ -20,117 +21,87 @@ pub struct Outcomes {
     pub kept: usize,
 }
 
-// Whether a step is refused 20 or 22 and yet changed the record or counted trials.
-fn is_changed(said: u8, w: Walk, after: Walk, trials: u64) -> bool {
-    if said < 20 {
-        return false;
+// Whether a step is refused, but not as spent, and yet changed the record or counted trials.
+fn is_changed(said: Result<Answer, Refusal>, before: Walk, after: Walk, trials: u64) -> bool {
+    match said {
+        Ok(_) => false,
+        Err(Refusal::Spent) => false,
+        Err(_) => trials != 0 || after != before,
     }
-    if said == 21 {
-        return false;
-    }
-    if trials != 0 {
-        return true;
-    }
-    !walk_records::same_walk(w, after)
 }
 
 // Whether a step carries another place, or keeps another row, than plain search says.
-fn is_misplaced(said: u8, w: Walk, after: Walk, carried: usize) -> bool {
-    let before = w.kept;
-    let row = after.row;
-    let kept = after.kept;
-    // a ring is kept
-    if said == 0 {
-        if carried != test_walks::first_difference(w.n, &before, &row) {
-            return true;
+fn is_misplaced(said: Result<Answer, Refusal>, before: Walk, after: Walk, carried: usize) -> bool {
+    match said {
+        // a ring is kept
+        Ok(Answer::Ring) => {
+            carried != test_walks::first_difference(before.n, &before.kept, &after.row)
+                || after.kept != after.row
         }
-        return !test_walks::same_row(&kept, &row);
+        // after none zeros are kept, after a refusal what was kept
+        Ok(Answer::None) => carried != 0 || after.kept != [0; MOST_STATIONS],
+        Err(_) => carried != 0 || after.kept != before.kept,
     }
-    if carried != 0 {
-        return true;
-    }
-    // after none zeros are kept, after a refusal what was kept
-    if said == 1 {
-        return test_rows::count(&kept, 0) != refusal::MOST_STATIONS;
-    }
-    !test_walks::same_row(&kept, &before)
 }
 
 // A step of a record.
-pub fn outcome(w: Walk, allowance: u64) -> Outcomes {
+fn outcome(w: Walk, allowance: u64) -> Outcomes {
     let step = w.step(allowance);
-    let answer = step.answer;
+    let said = step.answer;
     let after = step.walk;
-    let row = after.row;
-    let at = after.at;
-    let kept = after.kept;
-    let said = test_walks::answer_number(answer);
     Outcomes {
-        rings: test_rows::one_if(said == 0),
-        nones: test_rows::one_if(said == 1),
-        ended: test_rows::one_if(said == 20),
-        spent: test_rows::one_if(said == 21),
-        unfit: test_rows::one_if(said == 22),
-        changed: test_rows::one_if(is_changed(said, w, after, step.trials)),
-        misplaced: test_rows::one_if(is_misplaced(said, w, after, step.place)),
+        rings: usize::from(said == Ok(Answer::Ring)),
+        nones: usize::from(said == Ok(Answer::None)),
+        ended: usize::from(said == Err(Refusal::Ended)),
+        spent: usize::from(said == Err(Refusal::Spent)),
+        unfit: usize::from(said == Err(Refusal::Unfit)),
+        changed: usize::from(is_changed(said, w, after, step.trials)),
+        misplaced: usize::from(is_misplaced(said, w, after, step.place)),
         trials: step.trials as usize,
-        rows: test_walks::number_of(after.n, &row),
-        places: walk_records::standing_place(at),
+        rows: test_walks::number_of(after.n, &after.row),
+        places: walk_records::standing_place(after.at),
         carried: step.place,
-        kept: test_walks::number_of(after.n, &kept),
+        kept: test_walks::number_of(after.n, &after.kept),
     }
 }
 
-pub fn sum(a: Outcomes, b: Outcomes) -> Outcomes {
-    Outcomes {
-        rings: test_walks::plus(a.rings, b.rings),
-        nones: test_walks::plus(a.nones, b.nones),
-        ended: test_walks::plus(a.ended, b.ended),
-        spent: test_walks::plus(a.spent, b.spent),
-        unfit: test_walks::plus(a.unfit, b.unfit),
-        changed: test_walks::plus(a.changed, b.changed),
-        misplaced: test_walks::plus(a.misplaced, b.misplaced),
-        trials: test_walks::plus(a.trials, b.trials),
-        rows: test_walks::plus(a.rows, b.rows),
-        places: test_walks::plus(a.places, b.places),
-        carried: test_walks::plus(a.carried, b.carried),
-        kept: test_walks::plus(a.kept, b.kept),
+impl Outcomes {
+    // One step more.
+    pub fn with(self, w: Walk, allowance: u64) -> Outcomes {
+        let one = outcome(w, allowance);
+        Outcomes {
+            rings: test_walks::plus(self.rings, one.rings),
+            nones: test_walks::plus(self.nones, one.nones),
+            ended: test_walks::plus(self.ended, one.ended),
+            spent: test_walks::plus(self.spent, one.spent),
+            unfit: test_walks::plus(self.unfit, one.unfit),
+            changed: test_walks::plus(self.changed, one.changed),
+            misplaced: test_walks::plus(self.misplaced, one.misplaced),
+            trials: test_walks::plus(self.trials, one.trials),
+            rows: test_walks::plus(self.rows, one.rows),
+            places: test_walks::plus(self.places, one.places),
+            carried: test_walks::plus(self.carried, one.carried),
+            kept: test_walks::plus(self.kept, one.kept),
+        }
     }
-}
 
-pub fn nothing() -> Outcomes {
-    Outcomes {
-        rings: 0,
-        nones: 0,
-        ended: 0,
-        spent: 0,
-        unfit: 0,
-        changed: 0,
-        misplaced: 0,
-        trials: 0,
-        rows: 0,
-        places: 0,
-        carried: 0,
-        kept: 0,
+    pub fn print(self) {
+        test_rows::print_filled(
+            b" rings # none # ended # spent # unfit # changed # misplaced # trials # rows # places # carried # kept #\n",
+            &[
+                self.rings,
+                self.nones,
+                self.ended,
+                self.spent,
+                self.unfit,
+                self.changed,
+                self.misplaced,
+                self.trials,
+                self.rows,
+                self.places,
+                self.carried,
+                self.kept,
+            ],
+        );
     }
-}
-
-pub fn print_outcomes(outcomes: Outcomes) {
-    test_rows::print_filled(
-        b" rings # none # ended # spent # unfit # changed # misplaced # trials # rows # places # carried # kept #\n",
-        &[
-            outcomes.rings,
-            outcomes.nones,
-            outcomes.ended,
-            outcomes.spent,
-            outcomes.unfit,
-            outcomes.changed,
-            outcomes.misplaced,
-            outcomes.trials,
-            outcomes.rows,
-            outcomes.places,
-            outcomes.carried,
-            outcomes.kept,
-        ],
-    );
 }

@@ -4,17 +4,11 @@ use walk::{Standing, Stepped, Walk};
 
 // The row of 64 bytes that begins with the digits of word k; zeros where there is no such word.
 fn row_of(fields: &[u8], k: usize) -> [u8; refusal::MOST_STATIONS] {
-    let mut row = [0u8; refusal::MOST_STATIONS];
     if test_rows::count(fields, b' ') < k {
-        return row;
+        return [0; refusal::MOST_STATIONS];
     }
     let symbols = cases::symbols(cases::word(fields, k));
-    let mut i: usize = 0;
-    while i < refusal::MOST_STATIONS {
-        row[i] = symbols[i];
-        i += 1;
-    }
-    row
+    std::array::from_fn(|i| symbols[i])
 }
 
 // A standing by the first letter of its name.
@@ -31,23 +25,19 @@ fn standing_of(letter: u8, place: usize) -> Standing {
 // The place that a step carries, and the row kept after it.
 fn print_kept(step: Stepped) {
     let after = step.walk;
-    let kept = after.kept;
     test_rows::print_filled(b" carries # kept ", &[step.place]);
-    test_rows::print_row(after.n, &kept);
+    test_rows::print_row(after.n, &after.kept);
 }
 
 fn print_step(w: Walk, step: Stepped) {
     let after = step.walk;
-    let row = after.row;
-    let at = after.at;
-    let answer = step.answer;
-    let standing = test_rows::wide(walk_records::standing_number(at));
-    test_walks::print_said(test_walks::answer_number(answer));
-    test_rows::print_filled(b" trials # row ", &[step.trials as usize]);
-    test_rows::print_row(after.n, &row);
+    let standing = usize::from(walk_records::standing_number(after.at));
+    test_walks::print_said(step.answer);
+    test_rows::print_filled(b" trials #", &[step.trials as usize]);
+    test_walks::print_row(after);
     test_rows::print_filled(
         b" standing # place #",
-        &[standing, walk_records::standing_place(at)],
+        &[standing, walk_records::standing_place(after.at)],
     );
     print_kept(step);
     io::write_all(1, b" unchanged");
@@ -57,39 +47,26 @@ fn print_step(w: Walk, step: Stepped) {
 // A line is a name, then stations, holes, kind, standing, its place, and as digits the row and the row kept.
 fn show(line: &[u8]) {
     let fields = cases::piece(line, b':', 1);
-    let n = cases::number(fields, 1);
-    let d = cases::number(fields, 2);
-    let kind = cases::number_to(fields, 3, 255) as u8;
+    let drawer = cases::drawer(fields, 1);
     let at = standing_of(
         cases::first_byte(cases::word(fields, 4)),
         cases::number(fields, 5),
     );
-    let row = row_of(fields, 6);
-    let kept = row_of(fields, 7);
     let w = Walk {
-        n,
-        d,
-        kind,
-        row,
+        n: drawer.n,
+        d: drawer.d,
+        kind: drawer.kind,
+        row: row_of(fields, 6),
         at,
-        kept,
+        kept: row_of(fields, 7),
     };
     io::write_all(1, cases::piece(line, b':', 0));
     print_step(w, w.step(1000));
 }
 
-fn show_lines(text: &[u8]) {
-    let lines = test_rows::count(text, b'\n');
-    let mut i: usize = 0;
-    while i < lines {
-        show(cases::piece(text, b'\n', i));
-        i += 1;
-    }
-}
-
 pub fn show_single() {
     // sizes and bytes, then standings, then rows kept, then fit records
-    show_lines(
+    cases::each(
         b"stations 0: 0 0 1 Limit 0 \n\
           stations 65: 65 0 1 Limit 0 \n\
           most stations: most 0 1 Ended 0 \n\
@@ -154,5 +131,7 @@ pub fn show_single() {
           kept lower turned over, of kind 3: 6 3 3 Limit 0 001101 001101\n\
           kept of 64, other last: 64 64 1 Limit 0 1111111111111111111111111111111111111111111111111111111111111111 \
             1111111111111111111111111111111111111111111111111111111111111110\n",
+        b'\n',
+        show,
     );
 }

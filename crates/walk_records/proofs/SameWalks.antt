@@ -1,17 +1,20 @@
 -- The test of two walk records is equality.
-use mathlib.Core.Bool.{true}
+use mathlib.Core.Bool.{Bool, false, true, ◌&&◌}
 use mathlib.Core.List.{List}
 use mathlib.Core.Path.{ap₂, refl, sym, ◌∙◌, ◌≡◌}
 use Prim.Native.Nat.{suc, zero, ℕ}
 use lib.Dec.{eqb}
 use borrow.Author.Tests.{eq-eqb, eqb-true}
+use Rattle.std.proofs.lemmas.Bool.Decides.{Decides-eqb}
+use Rattle.std.proofs.lemmas.Slice.Eq.{slice_eq-Decides}
+use Rattle.std.specs.Cmp.Lexicographic.{pointwise}
+use Rattle.walk.specs.contracts.StandingPartialEq.TheImpl as StandingEq
+use Rattle.walk.specs.contracts.WalkPartialEq.TheImpl as WalkEq
 use Rattle.walk.specs.declared.Standing.{Standing}
 use Rattle.walk.specs.declared.Standing.TheVariants.{Down, Ended, Given, Limit, Up}
 use Rattle.walk.specs.declared.Walk.{Walk}
 use Rattle.words.proofs.Booleans.{and→, same_test, →and}
-use Rattle.words.proofs.Difference.{no_difference}
 use Rattle.words.proofs.OrderTests.{same→, →same}
-use Rattle.words.specs.Difference.{first_difference}
 use Rattle.words.specs.Order.{same}
 use Rattle.walk_records.specs.Claims.{SameWalk}
 use Rattle.walk_records.specs.SameWalks.{same_standing, same_walk, standing_number, standing_place}
@@ -46,16 +49,44 @@ unfolding same_standing
 standing_self a =
     →and (eq-eqb (standing_number a) (standing_number a) refl) (eq-eqb (standing_place a) (standing_place a) refl)
 
--- ---- rows, by the place where they differ
+-- the derived test
+standing_derived : (a b : Standing) → StandingEq.ghosts.eq a b ≡ same_standing a b
+unfolding same_standing
+standing_derived Limit Limit = refl
+standing_derived Limit (Down q) = refl
+standing_derived Limit (Up q) = refl
+standing_derived Limit Given = refl
+standing_derived Limit Ended = refl
+standing_derived (Down p) Limit = refl
+standing_derived (Down p) (Down q) = refl
+standing_derived (Down p) (Up q) = refl
+standing_derived (Down p) Given = refl
+standing_derived (Down p) Ended = refl
+standing_derived (Up p) Limit = refl
+standing_derived (Up p) (Down q) = refl
+standing_derived (Up p) (Up q) = refl
+standing_derived (Up p) Given = refl
+standing_derived (Up p) Ended = refl
+standing_derived Given Limit = refl
+standing_derived Given (Down q) = refl
+standing_derived Given (Up q) = refl
+standing_derived Given Given = refl
+standing_derived Given Ended = refl
+standing_derived Ended Limit = refl
+standing_derived Ended (Down q) = refl
+standing_derived Ended (Up q) = refl
+standing_derived Ended Given = refl
+standing_derived Ended Ended = refl
 
-pub row_same : (a b : List ℕ) (p : ℕ) → p ≡ first_difference a b → eqb p 0 ≡ same a b
-row_same a b p e =
-    same_test (eqb p 0) (same a b)
-    (λ t. →same a b ((no_difference a b).0 (sym e ∙ eqb-true p 0 t)))
-    (λ t. eq-eqb p 0 (e ∙ (no_difference a b).1 (same→ a b t)))
+-- ---- rows
 
 row_self : (a : List ℕ) → same a a ≡ true
 row_self a = →same a a refl
+
+row_derived : (a b : List ℕ) → pointwise eqb a b ≡ same a b
+row_derived a b =
+    let d = slice_eq-Decides Decides-eqb a b (pointwise eqb a b) refl in
+    same_test (pointwise eqb a b) (same a b) (λ e. →same a b (d.0 e)) (λ e. d.1 (same→ a b e))
 
 -- ---- records
 
@@ -85,3 +116,15 @@ same_walk_lem a b = (there, λ e. rw e (self b))
         (→and (eq-eqb w.kind w.kind refl)
         (→and (standing_self w.at)
         (→and (row_self w.row) (row_self w.kept)))))
+
+swapped : (x y z : Bool) → (x && (y && z)) ≡ (y && (x && z))
+swapped true y z = refl
+swapped false true z = refl
+swapped false false z = refl
+
+-- the derived test: the rows before the standing
+pub same_derived : (a b : Walk) {r : Bool} → r ≡ WalkEq.ghosts.eq a b → r ≡ same_walk a b
+unfolding same_walk
+same_derived a b e =
+    e
+    ∙ rw (row_derived a.row b.row, row_derived a.kept b.kept, standing_derived a.at b.at, swapped (same a.row b.row) (same_standing a.at b.at) (same a.kept b.kept))

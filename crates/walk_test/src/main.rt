@@ -3,11 +3,12 @@
 
 mod shown;
 
-ghost use Rattle.std.specs.Prelude.{◌<◌, ◌≤◌, ◌*◌};
+ghost use Rattle.std.specs.Prelude.{◌<◌, ◌≤◌};
 
-use test_rows::cases;
-use test_walks::book::Book;
-use walk::{Standing, Stepped, Walk};
+use refusal::{MOST_STATIONS, Refusal};
+use test_rows::{Drawer, cases};
+use test_walks::book::{Book, Next, Shelf};
+use walk::{Answer, Standing, Stepped, Walk};
 
 // More steps than any of these walks needs.
 const STEPS: usize = 20000;
@@ -15,7 +16,7 @@ const STEPS: usize = 20000;
 // ---- walks against the book
 
 // What was compared, and what differed. A walk counts at its step after the end. No count goes above a billion.
-#[derive(Clone, Copy)]
+#[derive(Clone, Copy, Default)]
 struct Counts {
     walks: usize,
     rings: usize,
@@ -25,54 +26,47 @@ struct Counts {
     differing: usize,
 }
 
-fn sum(a: Counts, b: Counts) -> Counts {
-    Counts {
-        walks: test_walks::plus(a.walks, b.walks),
-        rings: test_walks::plus(a.rings, b.rings),
-        trials: test_walks::plus(a.trials, b.trials),
-        spent: test_walks::plus(a.spent, b.spent),
-        places: test_walks::plus(a.places, b.places),
-        differing: test_walks::plus(a.differing, b.differing),
+impl Counts {
+    fn plus(self, other: Counts) -> Counts {
+        Counts {
+            walks: test_walks::plus(self.walks, other.walks),
+            rings: test_walks::plus(self.rings, other.rings),
+            trials: test_walks::plus(self.trials, other.trials),
+            spent: test_walks::plus(self.spent, other.spent),
+            places: test_walks::plus(self.places, other.places),
+            differing: test_walks::plus(self.differing, other.differing),
+        }
     }
 }
 
-fn nothing() -> Counts {
-    Counts {
-        walks: 0,
-        rings: 0,
-        trials: 0,
-        spent: 0,
-        places: 0,
-        differing: 0,
-    }
+// The limits that drawers are walked from, the first of them that of ones or the lowest, with how many are skipped
+// after each; and the pattern of allowances.
+#[derive(Clone, Copy)]
+struct Plan {
+    from_ones: bool,
+    skipped: usize,
+    pattern: usize,
 }
 
 // The allowances of a walk: always the same from 1 to 3, the cycle 0, 1, 2, 3, plenty after three times 0, or plenty.
-fn allowance_of(pattern: usize, i: usize) -> usize
+fn allowance_of(pattern: usize, i: usize) -> u64
     ensures { result ≤ 1000 }
 {
+    let turn = (i % 4) as u64;
     match pattern {
         1 => 1,
         2 => 2,
         3 => 3,
-        4 => i % 4,
-        5 => i % 4 / 3 * 1000,
+        4 => turn,
+        5 => turn / 3 * 1000,
         _ => 1000,
     }
 }
 
 // Whether a trial is due: at a 1 for Down, or at Up.
-fn is_due(row: &[u8; refusal::MOST_STATIONS], at: Standing) -> bool {
+fn is_due(row: &[u8; MOST_STATIONS], at: Standing) -> bool {
     match at {
-        Standing::Down(p) => {
-            if p < 1 {
-                return false;
-            }
-            if refusal::MOST_STATIONS < p {
-                return false;
-            }
-            row[p - 1] == 1
-        }
+        Standing::Down(p) => 0 < p && row.get(p - 1) == Some(&1),
         Standing::Up(_) => true,
         Standing::Limit => false,
         Standing::Given => false,
@@ -81,122 +75,87 @@ fn is_due(row: &[u8; refusal::MOST_STATIONS], at: Standing) -> bool {
 }
 
 // Whether the walk's row and standing fit what the book says.
-fn left_right(number: usize, n: usize, said: u8, before: Walk, after: Walk) -> bool {
-    let row = after.row;
-    let at = after.at;
-    if said == 20 {
-        return walk_records::same_walk(before, after);
+fn left_right(book: Book, said: Result<Answer, Refusal>, before: Walk, after: Walk) -> bool {
+    let line = test_rows::row_of_number(book.row.shelf.drawer.n, book.row.number);
+    match said {
+        Ok(Answer::Ring) => after.row == line && after.at == Standing::Given,
+        Ok(Answer::None) => after.row == line && after.at == Standing::Ended,
+        Err(Refusal::Ended) => after == before,
+        Err(Refusal::Spent) => is_due(&after.row, after.at),
+        Err(_) => false,
     }
-    if said == 21 {
-        return is_due(&row, at);
-    }
-    let line = test_rows::row_of_number(n, number);
-    if !test_walks::same_row(&row, &line) {
-        return false;
-    }
-    // Given after a ring, Ended after none
-    walk_records::standing_number(at) == 3 + said % 2
 }
 
-// A step, compared with what the book says: the answer, the trials, the place, and the walk that is left. `next` is the book after it.
-fn counted(
-    book: Book,
-    next: Book,
-    allowance: usize,
-    n: usize,
-    before: Walk,
-    step: Stepped,
-) -> Counts {
-    let answer = step.answer;
+// A step, compared with what the book says: the answer, the trials, the place, and the walk that is left. `next` is the
+// book after it.
+fn counted(book: Book, next: Book, allowance: u64, before: Walk, step: Stepped) -> Counts {
     let after = step.walk;
-    let kept = after.kept;
-    let line = test_rows::row_of_number(n, next.kept);
-    let said = test_walks::answer_number(answer);
-    let trials = test_walks::book::trials(book, allowance) as u64;
+    let line = test_rows::row_of_number(book.row.shelf.drawer.n, next.kept);
     Counts {
-        walks: test_rows::one_if(book.over),
-        rings: test_rows::one_if(said == 0),
+        walks: usize::from(book.next == Next::Over),
+        rings: usize::from(step.answer == Ok(Answer::Ring)),
         trials: step.trials as usize,
-        spent: test_rows::one_if(said == 21),
+        spent: usize::from(step.answer == Err(Refusal::Spent)),
         places: step.place,
-        differing: test_rows::one_if(said != test_walks::book::says(book, allowance))
-            + test_rows::one_if(step.trials != trials)
-            + test_rows::one_if(step.place != test_walks::book::place(n, book, allowance))
-            + test_rows::one_if(!test_walks::same_row(&kept, &line))
-            + test_rows::one_if(!left_right(book.number, n, said, before, after)),
+        differing: usize::from(step.answer != book.says(allowance))
+            + usize::from(step.trials != book.trials(allowance))
+            + usize::from(step.place != book.place(allowance))
+            + usize::from(after.kept != line)
+            + usize::from(!left_right(book, step.answer, before, after)),
     }
 }
 
 // A whole walk, and one step after its end.
-fn compare(n: usize, half: usize, d: usize, kind: u8, limit: usize, pattern: usize) -> Counts
-    requires n_bound { n ≤ 14 }
-    requires half_bound { half ≤ 8192 }
-    requires limit_bound { limit < 2 * half }
-{
+fn compare(shelf: Shelf, limit: usize, pattern: usize) -> Counts {
+    let n = shelf.drawer.n;
     let row = test_rows::row_of_number(n, limit);
-    let opening = Walk::open(n, d, kind, cases::part(&row, 0, n));
-    let mut w = opening.walk;
-    let mut book = test_walks::book::opened(n, half, d, kind, limit);
-    let mut counts = nothing();
-    let mut i: usize = 0;
-    while i < STEPS {
+    let opened = test_walks::open(shelf.drawer, cases::part(&row, 0, n));
+    let mut walk = opened.walk;
+    let mut book = shelf.opened(limit);
+    let mut counts = Counts::default();
+    for i in 0..STEPS {
         let allowance = allowance_of(pattern, i);
-        let next = test_walks::book::stepped(n, half, d, kind, book, allowance);
-        let step = w.step(allowance as u64);
-        counts = sum(counts, counted(book, next, allowance, n, w, step));
-        if book.over {
+        let next = book.stepped(allowance);
+        let step = walk.step(allowance);
+        counts = counts.plus(counted(book, next, allowance, walk, step));
+        if book.next == Next::Over {
             return counts;
         }
         book = next;
-        w = step.walk;
-        i += 1;
+        walk = step.walk;
     }
     counts
 }
 
-// A drawer, of a kind, at limits from the first up, some skipped after each.
-fn compare_limits(
-    n: usize,
-    d: usize,
-    kind: u8,
-    first: usize,
-    skipped: usize,
-    pattern: usize,
-) -> Counts
-    requires n_bound { n ≤ 14 }
-    requires skipped_bound { skipped < 1000 }
+// A drawer at the limits of a plan.
+fn compare_limits(drawer: Drawer, plan: Plan) -> Counts
+    requires n_bound { drawer.n ≤ 14 }
+    requires skipped_bound { plan.skipped < 1000 }
 {
-    let half = test_walks::book::half_of(n);
-    let mut counts = nothing();
-    let mut limit = first;
-    while limit < 2 * half {
-        counts = sum(counts, compare(n, half, d, kind, limit, pattern));
-        limit += 1 + skipped;
+    let shelf = Shelf::new(drawer);
+    let mut counts = Counts::default();
+    let mut limit = if plan.from_ones {
+        2 * shelf.half - 1
+    } else {
+        0
+    };
+    while limit < 2 * shelf.half {
+        counts = counts.plus(compare(shelf, limit, plan.pattern));
+        limit += 1 + plan.skipped;
     }
     counts
 }
 
-// The same of each kind.
-fn compare_kinds(n: usize, d: usize, first: usize, skipped: usize, pattern: usize) -> Counts
+// All drawers of n stations, of each kind.
+fn compare_drawers(n: usize, plan: Plan) -> Counts
     requires n_bound { n ≤ 14 }
-    requires skipped_bound { skipped < 1000 }
+    requires skipped_bound { plan.skipped < 1000 }
 {
-    let one = compare_limits(n, d, 1, first, skipped, pattern);
-    let two = compare_limits(n, d, 2, first, skipped, pattern);
-    let three = compare_limits(n, d, 3, first, skipped, pattern);
-    sum(sum(one, two), three)
-}
-
-// All drawers of n stations.
-fn compare_drawers(n: usize, first: usize, skipped: usize, pattern: usize) -> Counts
-    requires n_bound { n ≤ 14 }
-    requires skipped_bound { skipped < 1000 }
-{
-    let mut counts = nothing();
-    let mut d: usize = 0;
-    while d <= n {
-        counts = sum(counts, compare_kinds(n, d, first, skipped, pattern));
-        d += 1;
+    let mut counts = Counts::default();
+    for d in 0..=n {
+        for kind in 1..=3 {
+            counts = counts.plus(compare_limits(Drawer { n, d, kind }, plan));
+        }
     }
     counts
 }
@@ -216,27 +175,21 @@ fn print_counts(n: usize, counts: Counts) {
     );
 }
 
-// The lowest limit of n stations, or the one of ones.
-fn first_limit(n: usize, word: &[u8]) -> usize {
-    if cases::first_byte(word) == b'z' {
-        return 0;
-    }
-    2 * test_walks::book::half_of(n) - 1
-}
-
-// A line is a name, then stations from and to, the first limit, how many are skipped after each, and the pattern of allowances.
+// A line is a name, then stations from and to, the first limit, how many are skipped after each, and the pattern of
+// allowances.
 fn show_drawers(line: &[u8]) {
     let fields = cases::piece(line, b':', 1);
-    let to = cases::number_to(fields, 2, 14);
-    let skipped = cases::number_to(fields, 4, 999);
-    let pattern = cases::number(fields, 5);
+    let first = cases::number(fields, 1);
+    let last = cases::number_to(fields, 2, 14);
+    let plan = Plan {
+        from_ones: cases::first_byte(cases::word(fields, 3)) == b'o',
+        skipped: cases::number_to(fields, 4, 999),
+        pattern: cases::number(fields, 5),
+    };
     io::write_all(1, cases::piece(line, b':', 0));
     io::write_all(1, b"\n");
-    let mut n = cases::number(fields, 1);
-    while n <= to {
-        let first = first_limit(n, cases::word(fields, 3));
-        print_counts(n, compare_drawers(n, first, skipped, pattern));
-        n += 1;
+    for n in first..=last {
+        print_counts(n, compare_drawers(n, plan));
     }
 }
 
@@ -247,18 +200,9 @@ fn show(line: &[u8]) {
     shown::show(line);
 }
 
-fn show_lines(text: &[u8]) {
-    let lines = test_rows::count(text, b'\n');
-    let mut i: usize = 0;
-    while i < lines {
-        show(cases::piece(text, b'\n', i));
-        i += 1;
-    }
-}
-
 fn main() {
     // drawers against the book, then single walks, then refused openings
-    show_lines(
+    cases::each(
         b"limit of ones, plenty allowed: 1 14 ones 0 0\n\
           every 257th limit, plenty allowed: 9 14 zeros 256 0\n\
           all limits, plenty allowed: 1 8 zeros 0 0\n\
@@ -308,5 +252,7 @@ fn main() {
           4 3 1 0200\n\
           4 3 2 0232\n\
           4 3 3 1112\n",
+        b'\n',
+        show,
     );
 }

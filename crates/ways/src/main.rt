@@ -1,8 +1,6 @@
 // Prints the ways to choose, top rising, bottom rising within it. It stops at once where output is not taken.
 #![tactic(auto)]
 
-use pascal::Answer;
-
 // A number and what follows it; whether all of it was taken.
 fn print_field(n: u64, behind: &[u8]) -> bool {
     io::print_decimal(1, n) && io::write_all(1, behind)
@@ -10,27 +8,20 @@ fn print_field(n: u64, behind: &[u8]) -> bool {
 
 // A line, with nothing but the look-up to print from; whether all of it was taken.
 fn print_line(table: &[u64; pascal::ENTRIES], top: usize, bottom: usize) -> bool {
-    let answer = pascal::ways_in(table, top, bottom);
-    match answer {
-        Answer::Ways(x) => {
+    match pascal::ways_in(table, top, bottom) {
+        Ok(x) => {
+            // by `as`: no From leads from a usize to a u64
             print_field(top as u64, b" ")
                 && print_field(bottom as u64, b" ")
                 && print_field(x, b"\n")
         }
-        Answer::Refused(_) => false,
+        Err(_) => false,
     }
 }
 
 // The lines of a top; whether all of them were taken.
 fn print_row(table: &[u64; pascal::ENTRIES], top: usize) -> bool {
-    let mut bottom: usize = 0;
-    while bottom < top {
-        if !print_line(table, top, bottom) {
-            return false;
-        }
-        bottom += 1;
-    }
-    print_line(table, top, top)
+    (0..=top).all(|bottom| print_line(table, top, bottom))
 }
 
 fn main() {
@@ -38,11 +29,9 @@ fn main() {
         return;
     }
     let table = pascal::triangle();
-    let mut top: usize = 0;
-    while top <= pascal::LAST_ROW {
+    for top in 0..=pascal::LAST_ROW {
         if !print_row(&table, top) {
             return;
         }
-        top += 1;
     }
 }

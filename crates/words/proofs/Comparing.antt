@@ -16,18 +16,28 @@ use Rattle.words.proofs.PairsCompared.{all_pairs, byte_pairs, word_pairs}
 use Rattle.words.specs.Difference.{first_difference}
 use Rattle.words.specs.Order.{cmp, order_of}
 use Rattle.words.specs.Pairs.{pairs, shorter_length}
-use Rattle.words.specs.declared.Order.{Order}
-use Rattle.words.specs.declared.Order.TheVariants.{Equal, Higher, Lower}
+use Rattle.std.proofs.lemmas.Cmp.{ranked}
+use Rattle.std.specs.Ordering.{MatchOrdering, nat_cmp}
+use Rattle.std.specs.declared.cmp.Ordering.{Ordering}
+use Rattle.std.specs.declared.cmp.Ordering.TheVariants.{Equal, Greater, Less}
 
 -- what the comparison promises of an order, a place and a number of pairs
-abbrev pub Told : List ℕ → List ℕ → Order → ℕ → ℕ → Type 0
+abbrev pub Told : List ℕ → List ℕ → Ordering → ℕ → ℕ → Type 0
 Told a b o p q = (o ≡ order_of (cmp a b)) × ((p ≡ first_difference a b) × (q ≡ pairs a b))
 
 -- an order that was chosen by two numbers, which differ
-abbrev pub Chosen : ℕ → ℕ → Order → Type 0
-Chosen x y o = ((x < y) × (o ≡ Lower)) ⊎ ((y < x) × (o ≡ Higher))
+abbrev pub Chosen : ℕ → ℕ → Ordering → Type 0
+Chosen x y o = ((x < y) × (o ≡ Less)) ⊎ ((y < x) × (o ≡ Greater))
 
-module _ (a b : List ℕ) (i : ℕ) (e : take i a ≡ take i b) (ha : i < length a) (hb : i < length b) (o : Order) where
+pub chosen : (x y : ℕ) (o : Ordering) → (x ≡ y → ⊥) → o ≡ nat_cmp x y → Chosen x y o
+chosen x y o d e = go o (ranked x y o e)
+  where
+    go : (o : Ordering) → MatchOrdering o (x < y) (x ≡ y) (y < x) → Chosen x y o
+    go Less h = inl (h, refl)
+    go Equal h = absurd (d h)
+    go Greater h = inr (h, refl)
+
+module _ (a b : List ℕ) (i : ℕ) (e : take i a ≡ take i b) (ha : i < length a) (hb : i < length b) (o : Ordering) where
   chosen_order : Chosen (get_or a i 0) (get_or b i 0) o → o ≡ order_of (cmp a b)
   chosen_order (inl h) = h.1 ∙ ap order_of (sym (cmp_lower a b i i ha hb h.0) ∙ agree_cmp a b i e)
   chosen_order (inr h) = h.1 ∙ ap order_of (sym (cmp_higher a b i i ha hb h.0) ∙ agree_cmp a b i e)
@@ -66,7 +76,7 @@ module _ {a b : List ℕ} {shorter words k : ℕ} (v : Words a b shorter words k
         let s : (k + 1) * 8 ≡ k * 8 + 8 = omega arith in
         record { short = v.short; all = v.all; inside = omega arith; agree = rw s more }
 
-    pub words_differ : (o : Order) (z : ℕ) → z ≡ count_leading_zeros 64 (bit_xor x y) / 8 → Chosen x y o → Told a b o (k * 8 + z + 1) (k + 1)
+    pub words_differ : (o : Ordering) (z : ℕ) → z ≡ count_leading_zeros 64 (bit_xor x y) / 8 → Chosen x y o → Told a b o (k * 8 + z + 1) (k + 1)
     words_differ o z ez ch = go (first_byte f g (λ j. ha (k * 8 + j)) (λ j. hb (k * 8 + j)) 8 (apart ch))
       where
         apart : Chosen x y o → high_first 8 f ≡ high_first 8 g → ⊥
@@ -130,7 +140,7 @@ module _ {a b : List ℕ} {shorter words i : ℕ} (v : Bytes a b shorter words i
         next : (k : ℕ) → k ≡ 0 → get_or a (i + k) 0 ≡ get_or b (i + k) 0
         next k z = let s : i + k ≡ i = omega arith in rw s e
 
-    pub bytes_differ : (o : Order) → Chosen (get_or a i 0) (get_or b i 0) o → Told a b o (i + 1) (words + i % 8 + 1)
+    pub bytes_differ : (o : Ordering) → Chosen (get_or a i 0) (get_or b i 0) o → Told a b o (i + 1) (words + i % 8 + 1)
     bytes_differ o ch =
         let in_a : i < length a = omega (arith, v.short) in
         let in_b : i < length b = omega (arith, v.short) in
@@ -152,7 +162,7 @@ module _ {a b : List ℕ} {shorter words i : ℕ} (v : Bytes a b shorter words i
           (sym ((no_difference a b).1 (agree_ended a b i v.agree in_a in_b)), whole),
         )
 
-    pub one_ended : (o : Order) → ((length a < length b) × (o ≡ Lower)) ⊎ ((length b < length a) × (o ≡ Higher)) → Told a b o (shorter + 1) (words + shorter % 8)
+    pub one_ended : (o : Ordering) → Chosen (length a) (length b) o → Told a b o (shorter + 1) (words + shorter % 8)
     one_ended o (inl c) =
         let in_a : length a ≡ i = omega (arith, v.short, v.inside, c.0) in
         let in_b : i < length b = omega (arith, c.0) in (

@@ -1,17 +1,21 @@
--- The place of the first symbol that passes a test: for a loop that looks for it, and what it means.
+-- The place of the first symbol that passes a test: by its index, and what it means.
 use mathlib.Core.Bool.{Bool, cond, false, true}
 use mathlib.Core.List.{List, [], ◌∷◌}
 use mathlib.Core.Logic.{inl, inr, ⊎_elim, ◌⊎◌}
 use mathlib.Core.Path.{ap, refl, sym, ◌∙◌, ◌≡◌}
-use Prim.Native.Nat.{suc, zero, zero-le, ℕ, ◌+◌, ◌<◌, ◌≤◌}
+use Prim.Native.Nat.{suc, zero, ℕ, ◌+◌, ◌<◌}
 use native.Mathlib.Numerals.{add-one}
 use native.Mathlib.Omega.{arith}
 use lib.Dec.{eqb}
-use lib.ListN.{drop, drop_of_length-le, get_or, length}
-use lib.Seq.{drop-cons}
+use lib.ListN.{get_or, length}
 use borrow.Author.Tests.{eqb-false, eqb-true}
+use Rattle.std.proofs.lemmas.Iterator.Adapters.{position_from-zero}
+use Rattle.std.specs.List.{position, position_from}
+use Rattle.std.specs.Prelude.{Option, Some, None}
 use Rattle.words.specs.Claims.{FirstSo}
-use Rattle.words.specs.Symbols.{first_where, later}
+use Rattle.std.specs.Option.{option_map}
+use Rattle.words.proofs.Booleans.{clash}
+use Rattle.words.specs.Symbols.{first_where, later, place_found}
 
 -- ---- places
 
@@ -32,31 +36,42 @@ pub from_start : (p : ℕ) → from_place 0 p ≡ p
 from_start zero = refl
 from_start (suc p) = ap suc (omega arith)
 
--- ---- a loop
+-- ---- by the index of the first, as `position` finds it
 
--- i symbols were looked at, and none of them passes
-pub record Looked (test : ℕ → Bool) (w : List ℕ) (i : ℕ) : Type 0 where
-  pub inside : i ≤ length w
-  pub found : from_place i (first_where test (drop i w)) ≡ first_where test w
+-- the place, from 1, of an index; 0 for none
+abbrev pub place_of : Option ℕ → ℕ
+place_of (Some i) = i + 1
+place_of None = 0
 
-pub looked_start : (test : ℕ → Bool) (w : List ℕ) → Looked test w 0
-looked_start test w = record { inside = zero-le; found = from_start _ }
+indexed : (test : ℕ → Bool) (i : ℕ) (w : List ℕ) → from_place i (first_where test w) ≡ place_of (position_from test i w)
+unfolding first_where
+indexed test i [] = refl
+indexed test i (x ∷ w) = go (test x) (rw add-one at (indexed test (i + 1) w))
+  where
+    go : (b : Bool) → from_place (suc i) (first_where test w) ≡ place_of (position_from test (suc i) w)
+        → from_place i (cond b 1 (later (first_where test w))) ≡ place_of (cond b (Some i) (position_from test (i + 1) w))
+    go true e = omega arith
+    go false e = from_later i (first_where test w) ∙ rw add-one e
 
-module _ {test : ℕ → Bool} {w : List ℕ} {i : ℕ} (v : Looked test w i) where
-  pub looked_here : i < length w → test (get_or w i 0) ≡ true → i + 1 ≡ first_where test w
-  unfolding first_where
-  looked_here h t = rw (drop-cons w i 0 h, t) (omega arith) ∙ v.found
+-- that place, as the code tells it
+place_indexed : (o : Option ℕ) → place_found (place_of o) ≡ option_map (λ i. i + 1) o
+place_indexed (Some i) = rw (add-one i)
+place_indexed None = refl
 
-  pub looked_on : i < length w → test (get_or w i 0) ≡ false → Looked test w (i + 1)
-  unfolding first_where
-  looked_on h t = record { inside = omega arith; found = rw add-one (rest ∙ v.found) }
-    where
-      rest : from_place (suc i) (first_where test (drop (suc i) w)) ≡ from_place i (first_where test (drop i w))
-      rest = rw (drop-cons w i 0 h, t) (sym (from_later i (first_where test (drop (suc i) w))))
+pub first_index : (test : ℕ → Bool) (w : List ℕ) → place_of (position test w) ≡ first_where test w
+first_index test w = ap place_of (position_from-zero test w) ∙ sym (indexed test 0 w) ∙ from_start (first_where test w)
 
-  pub looked_all : length w ≤ i → 0 ≡ first_where test w
-  unfolding first_where
-  looked_all h = rw (drop_of_length-le w h) at v.found
+pub first_found : (test : ℕ → Bool) (w : List ℕ) → option_map (λ i. i + 1) (position test w) ≡ place_found (first_where test w)
+first_found test w = sym (place_indexed (position test w)) ∙ ap place_found (first_index test w)
+
+-- a place that is told, or none
+pub found_place : (n p : ℕ) → place_found n ≡ Some p → (p ≡ n) × (p ≡ 0 → ⊥)
+found_place zero p e = clash (cc)
+found_place (suc n) p e = let q : suc n ≡ p = cc in (sym q, λ z. omega arith)
+
+pub found_none : (n : ℕ) → place_found n ≡ None → n ≡ 0
+found_none zero e = refl
+found_none (suc n) e = clash (cc)
 
 -- ---- what it means
 

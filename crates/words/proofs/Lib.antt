@@ -35,7 +35,7 @@ pub mod ScanSteps
 -- rows over an alphabet
 pub mod Alphabet
 pub mod HighestSymbol
--- for loops: the first symbol that passes a test, wrong symbols, the place of the first difference, writing the front of a buffer
+-- the first symbol that passes a test, wrong symbols, the place of the first difference, writing the front of a buffer
 pub mod Zeros
 pub mod FirstPlaces
 pub mod Wrong

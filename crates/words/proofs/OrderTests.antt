@@ -9,7 +9,7 @@ use lib.Seq.{drop-cons}
 use Rattle.words.proofs.AtMost.{equal, lower, ◌≼◌}
 use Rattle.words.proofs.Below.{Means, cmp_is, cmp_means, here, is_eq, is_gt, is_less, short, ◌≺◌}
 use Rattle.words.specs.Order.{cmp, is_lt, le, lt, order_of, same}
-use Rattle.words.specs.declared.Order.TheVariants.{Equal, Higher, Lower}
+use Rattle.std.specs.declared.cmp.Ordering.TheVariants.{Equal, Greater, Less}
 
 pub lt→ : (a b : List ℕ) → lt a b ≡ true → a ≺ b
 unfolding lt
@@ -66,7 +66,7 @@ not_same a b h = rw (cmp_is (is_gt h))
 
 -- ---- the answers as the code names them
 
-pub order_lower : (o : Ordering) → order_of o ≡ Lower → o ≡ Ordering.lt
+pub order_lower : (o : Ordering) → order_of o ≡ Less → o ≡ Ordering.lt
 order_lower Ordering.lt e = refl
 order_lower Ordering.eq e = cc
 order_lower Ordering.gt e = cc
@@ -76,7 +76,7 @@ order_equal Ordering.lt e = cc
 order_equal Ordering.eq e = refl
 order_equal Ordering.gt e = cc
 
-pub order_higher : (o : Ordering) → order_of o ≡ Higher → o ≡ Ordering.gt
+pub order_higher : (o : Ordering) → order_of o ≡ Greater → o ≡ Ordering.gt
 order_higher Ordering.lt e = cc
 order_higher Ordering.eq e = cc
 order_higher Ordering.gt e = refl

@@ -6,7 +6,7 @@ use Rattle.words.specs.Pairs.{pairs, shorter_length}
 use Rattle.words.specs.Reversal.{SameRing, turned_key}
 use Rattle.words.specs.Rotation.{IsRotation, is_lyndon, is_necklace, least_index, least_rotation, period, rotation}
 use Rattle.words.specs.Symbols.{Within, first_wrong}
-use Rattle.words.specs.declared.Order.TheVariants.{Equal, Higher, Lower}
+use Rattle.std.specs.declared.cmp.Ordering.TheVariants.{Equal, Greater, Less}
 
 -- ---- the order of rows
 
@@ -29,7 +29,7 @@ LiesBelow a b = ((y : ℕ) × (ys : List ℕ) × (b ≡ a ++ (y ∷ ys))) ⊎ Lo
 abbrev pub DictionaryOrder : Type 0
 DictionaryOrder =
     (a b : List ℕ) → let order = order_of (cmp a b) in
-    ((order ≡ Lower) ↔ LiesBelow a b) × ((order ≡ Equal) ↔ (a ≡ b)) × ((order ≡ Higher) ↔ LiesBelow b a)
+    ((order ≡ Less) ↔ LiesBelow a b) × ((order ≡ Equal) ↔ (a ≡ b)) × ((order ≡ Greater) ↔ LiesBelow b a)
 
 -- below, at or below, the same: the tests that other definitions use
 abbrev pub OrderTests : Type 0

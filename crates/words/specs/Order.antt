@@ -2,8 +2,8 @@
 use Rattle.std.specs.Prelude.{Bool, true, false, List, [], ◌∷◌}
 use Prim.Native.Nat.{ℕ, compare, Ordering}
 use Rattle.std.proofs.Math.Dec.{is_le, compare_is_eq}
-use Rattle.words.specs.declared.Order.{Order}
-use Rattle.words.specs.declared.Order.TheVariants.{Lower, Equal, Higher}
+use Rattle.std.specs.declared.cmp.Ordering.{Ordering as Answer}
+use Rattle.std.specs.declared.cmp.Ordering.TheVariants.{Less, Equal, Greater}
 
 -- the order of the heads, or of what follows them where the heads are equal
 abbrev pub head_first : Ordering → Ordering → Ordering
@@ -36,7 +36,7 @@ unfoldable pub same : List ℕ → List ℕ → Bool
 same a b = compare_is_eq (cmp a b)
 
 -- the three answers of the comparison, as the code names them
-abbrev pub order_of : Ordering → Order
-order_of Ordering.lt = Lower
+abbrev pub order_of : Ordering → Answer
+order_of Ordering.lt = Less
 order_of Ordering.eq = Equal
-order_of Ordering.gt = Higher
+order_of Ordering.gt = Greater

@@ -1,5 +1,5 @@
 -- The symbols of a row: an alphabet, zeros, their sum, and the first that passes a test or is none of an alphabet.
-use Rattle.std.specs.Prelude.{Bool, cond, true, ◌&&◌, List, [], ◌∷◌, ℕ, zero, suc, ◌+◌, ◌<◌, get_or, length, replicate, leb}
+use Rattle.std.specs.Prelude.{Bool, cond, true, ◌&&◌, List, [], ◌∷◌, Option, None, Some, ℕ, zero, suc, ◌+◌, ◌<◌, get_or, length, replicate, leb}
 
 -- each symbol is one of an alphabet of k
 abbrev pub Within : ℕ → List ℕ → Type 0
@@ -30,6 +30,11 @@ later (suc p) = suc (suc p)
 unfoldable pub first_where : (ℕ → Bool) → List ℕ → ℕ
 first_where test [] = 0
 first_where test (x ∷ xs) = let rest = later (first_where test xs) in cond (test x) 1 rest
+
+-- as the code tells it: 0 is no place
+abbrev pub place_found : ℕ → Option ℕ
+place_found zero = None
+place_found (suc p) = Some (suc p)
 
 -- "A byte other than 0 or 1; place of the first", for an alphabet of k symbols: the first that is not below k.
 unfoldable pub first_wrong : ℕ → List ℕ → ℕ

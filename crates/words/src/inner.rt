@@ -9,28 +9,19 @@ ghost use Rattle.words.specs.Symbols.{zeros};
 pub fn leading_zeros(a: &[u8]) -> usize
     ensures { Leading a.now result }
 {
-    let mut z: usize = 0;
-    while z < a.len() {
-        if a[z] != 0 {
-            return z;
-        }
-        z += 1;
-    }
-    z
+    a.iter().take_while(|x| **x == 0).count()
 }
 
 // The period of a row that begins with z zeros: its first symbols, of that number, are a Lyndon word, and it repeats them.
-// 0 if it begins no necklace.
+// 0 if it begins no necklace: the definitions and the records above keep it as one number, so it is no Option.
 pub fn prefix_period(a: &[u8], z: usize) -> usize
     requires { (0 < length a.now) × Leading a.now z }
     ensures { (coded result ≡ scan a.now) × (result ≤ length a.now) }
 {
-    let mut i: usize = 1;
+    let start = if z < a.len() { z + 1 } else { 1 };
     let mut j: usize = 0;
-    if z < a.len() {
-        i = z + 1;
-    }
-    while i < a.len() {
+    for i in start..a.len() {
+        // by == and <: a match on `cmp` was tried, slower
         if a[i] == a[j] {
             j += 1;
         } else {
@@ -39,9 +30,8 @@ pub fn prefix_period(a: &[u8], z: usize) -> usize
             }
             j = 0;
         }
-        i += 1;
     }
-    i - j
+    a.len() - j
 }
 
 // What the pass over a row finds, as the period of a necklace: 0 where it is none.
@@ -70,9 +60,5 @@ pub fn write_front(row: &[u8], out: &mut [u8])
     requires { length row.now ≤ length out.old }
     ensures { out.new ≡ fronted row.now out.old }
 {
-    let mut i: usize = 0;
-    while i < row.len() {
-        out[i] = row[i];
-        i += 1;
-    }
+    out[..row.len()].copy_from_slice(row);
 }

@@ -12,6 +12,7 @@ use Rattle.drawer_lines.specs.Lines.{longest_line, refusal_text, refused_names}
 use Rattle.text.specs.Parts.{feed, space}
 use Rattle.refusal.specs.Refusals.{number_of, place_of}
 use Rattle.refusal.specs.declared.Refusal.{Refusal}
+use Rattle.drawer_lines.proofs.write_refusal.Goals.{After-decimal_length-2}
 use Rattle.drawer_lines.proofs.write_refusal.Goals as goal
 
 -- the refusal's two numbers, and how many digits they have
@@ -30,6 +31,10 @@ numbers r f s d e =
       others = e ∙ ap (λ n. length (decimal n)) s;
     }
 
+told : (c : After-decimal_length-2) → Numbers c.args.r c.from-number.result c.place-place.result c.decimal_length.result c.decimal_length-2.result
+told c =
+    numbers c.args.r (c.from-number.ensures ∙ c.number.ensures) c.place-place.ensures c.decimal_length.ensures.0 c.decimal_length-2.ensures.0
+
 -- two numbers of 64 bits
 short : {r : Refusal} {number place digits digits2 : ℕ} → Numbers r number place digits digits2 → digits ≤ 20 → digits2 ≤ 20 → length (refusal_text r) ≤ longest_line
 short {r} n d e = omega (arith, refusal_length r)
@@ -37,7 +42,7 @@ short {r} n d e = omega (arith, refusal_length r)
 pub returns-then-out-decimal_length : goal.returns-then-out-decimal_length
 returns-then-out-decimal_length c =
     let a = c.args in
-    let n = numbers a.r (c.wide-number.ensures ∙ c.number.ensures) c.place-place.ensures c.decimal_length.ensures.0 c.decimal_length-2.ensures.0 in
+    let n = told (goal.at.returns-then-out-decimal_length c).After-decimal_length-2 in
     let w = too_short (refusal_text a.r) a.out.now (omega (arith, refusal_length a.r)) in
     record { answer = w.0; buffer = w.1; short = short n c.decimal_length.ensures.1 c.decimal_length-2.ensures.1 }
 
@@ -54,7 +59,7 @@ numbered r m f d e = filled_more f (field (number_of r) space) (omega (arith, re
 pub put_field-b-requires : goal.put_field-b-requires
 put_field-b-requires c =
     let r = c.args.r in
-    let n = numbers r (c.wide-number.ensures ∙ c.number.ensures) c.place-place.ensures c.decimal_length.ensures.0 c.decimal_length-2.ensures.0 in
+    let n = told (goal.at.put_field-b-requires c).After-decimal_length-2 in
     let m = room c.args.out.now n c.if-out-decimal_length.false in
     let f = named r m c.put-a.ensures.0 c.put-a.ensures.1 in
     rw n.first (omega (arith, refusal_length r, field-length (number_of r) space))
@@ -62,7 +67,7 @@ put_field-b-requires c =
 pub put_field-requires : goal.put_field-requires
 put_field-requires c =
     let r = c.args.r in
-    let n = numbers r (c.wide-number.ensures ∙ c.number.ensures) c.place-place.ensures c.decimal_length.ensures.0 c.decimal_length-2.ensures.0 in
+    let n = told (goal.at.put_field-requires c).After-decimal_length-2 in
     let m = room c.args.out.now n c.if-out-decimal_length.false in
     let f = named r m c.put-a.ensures.0 c.put-a.ensures.1 in
     let p = rw n.first at c.put_field-b.ensures in
@@ -74,7 +79,7 @@ unfolding refusal_text
 returns c =
     let r = c.args.r in
     let O = c.args.out.now in
-    let n = numbers r (c.wide-number.ensures ∙ c.number.ensures) c.place-place.ensures c.decimal_length.ensures.0 c.decimal_length-2.ensures.0 in
+    let n = told (goal.at.returns c).After-decimal_length-2 in
     let m = room O n c.if-out-decimal_length.false in
     let f = named r m c.put-a.ensures.0 c.put-a.ensures.1 in
     let b = rw n.first at c.put_field-b.ensures in

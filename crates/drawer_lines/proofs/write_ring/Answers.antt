@@ -10,6 +10,7 @@ use Rattle.text.specs.Decimals.{decimal, field}
 use Rattle.text.specs.Symbols.{row_field}
 use Rattle.drawer_lines.specs.Lines.{ring_line}
 use Rattle.text.specs.Parts.{feed, space}
+use Rattle.drawer_lines.proofs.write_ring.Goals.{Else-out-row-2}
 use Rattle.drawer_lines.proofs.write_ring.Goals as goal
 
 pub returns-then-out-row : goal.returns-then-out-row
@@ -38,6 +39,11 @@ room number row period trials O h =
       whole = simp length-append (omega arith);
     }
 
+roomy : (c : Else-out-row-2) → Room c.args.number c.args.row.now c.args.period c.args.trials c.args.out.now
+roomy c =
+    let a = c.args in
+    room a.number a.row.now a.period a.trials a.out.now (omega (arith, c.decimal_length.ensures.0, c.decimal_length-2.ensures.0, c.decimal_length-3.ensures.0))
+
 module _ {number : ℕ} {row : List ℕ} {period trials : ℕ} {O : List ℕ} (m : Room number row period trials O) where
   numbered : {o : List ℕ} {at : ℕ} → at ≡ 0 + length (field number space) → o ≡ placed O 0 (field number space) → Filled O (field number space) o at
   numbered d e = filled_more (filled_none O) (field number space) (omega arith) d e
@@ -53,20 +59,20 @@ module _ {number : ℕ} {row : List ℕ} {period trials : ℕ} {O : List ℕ} (m
 pub put_field-a-requires : goal.put_field-a-requires
 put_field-a-requires c =
     let a = c.args in
-    let m = room a.number a.row.now a.period a.trials a.out.now (omega (arith, c.decimal_length.ensures.0, c.decimal_length-2.ensures.0, c.decimal_length-3.ensures.0)) in
+    let m = roomy (goal.at.put_field-a-requires c).Else-out-row-2 in
     omega arith
 
 pub put_row-b-requires : goal.put_row-b-requires
 put_row-b-requires c =
     let a = c.args in
-    let m = room a.number a.row.now a.period a.trials a.out.now (omega (arith, c.decimal_length.ensures.0, c.decimal_length-2.ensures.0, c.decimal_length-3.ensures.0)) in
+    let m = roomy (goal.at.put_row-b-requires c).Else-out-row-2 in
     let f = numbered m c.put_field-a.ensures.0 c.put_field-a.ensures.1 in
     omega arith
 
 pub put_field-c-requires : goal.put_field-c-requires
 put_field-c-requires c =
     let a = c.args in
-    let m = room a.number a.row.now a.period a.trials a.out.now (omega (arith, c.decimal_length.ensures.0, c.decimal_length-2.ensures.0, c.decimal_length-3.ensures.0)) in
+    let m = roomy (goal.at.put_field-c-requires c).Else-out-row-2 in
     let f = numbered m c.put_field-a.ensures.0 c.put_field-a.ensures.1 in
     let g = with_row m f c.put_row-b.ensures.0 c.put_row-b.ensures.1 in
     let l = length-append (field a.number space) (row_field a.row.now) in
@@ -82,7 +88,7 @@ before_length number row period = simp length-append
 pub put_field-requires : goal.put_field-requires
 put_field-requires c =
     let a = c.args in
-    let m = room a.number a.row.now a.period a.trials a.out.now (omega (arith, c.decimal_length.ensures.0, c.decimal_length-2.ensures.0, c.decimal_length-3.ensures.0)) in
+    let m = roomy (goal.at.put_field-requires c).Else-out-row-2 in
     let f = numbered m c.put_field-a.ensures.0 c.put_field-a.ensures.1 in
     let g = with_row m f c.put_row-b.ensures.0 c.put_row-b.ensures.1 in
     let h = with_period m g c.put_field-c.ensures.0 c.put_field-c.ensures.1 in
@@ -93,7 +99,7 @@ pub returns : goal.returns
 unfolding ring_line
 returns c =
     let a = c.args in
-    let m = room a.number a.row.now a.period a.trials a.out.now (omega (arith, c.decimal_length.ensures.0, c.decimal_length-2.ensures.0, c.decimal_length-3.ensures.0)) in
+    let m = roomy (goal.at.returns c).Else-out-row-2 in
     let f = numbered m c.put_field-a.ensures.0 c.put_field-a.ensures.1 in
     let g = with_row m f c.put_row-b.ensures.0 c.put_row-b.ensures.1 in
     let h = with_period m g c.put_field-c.ensures.0 c.put_field-c.ensures.1 in

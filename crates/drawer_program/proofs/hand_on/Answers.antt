@@ -1,13 +1,11 @@
 -- `drawer_program::hand_on` meets its contract: each piece takes from what is left to print, and leaves less.
-use mathlib.Core.Bool.{false, false≢true, true}
+use mathlib.Core.Bool.{false≢true, true}
 use mathlib.Core.List.{List, [], append-nil, ◌++◌}
 use mathlib.Core.Path.{ap, sym, ◌∙◌, ◌≡◌}
-use Prim.Native.Nat.{ℕ, ◌≤◌}
-use native.Mathlib.Omega.{arith}
-use lib.ListN.{length, take}
-use lib.Seq.{length-take-le}
+use Prim.Native.Nat.{ℕ}
+use lib.ListN.{take}
 use borrow.Author.Rules.{rules}
-use Rattle.printing.proofs.Claims.{handed_left, less_left}
+use Rattle.printing.proofs.Claims.{handed_left}
 use Rattle.printing.specs.Left.{left}
 use Rattle.printing.specs.Pieces.{Fills, nothing, piece}
 use Rattle.printing.specs.declared.Filled.{Filled}
@@ -27,35 +25,16 @@ whole g e = sym (append-nil g.bytes) ∙ ap (λ x. g.bytes ++ x) (sym e) ∙ han
 pub loop-out-init : goal.loop-out-init
 loop-out-init c = record { room = sym c.buffer-out.ensures; bytes = []; pieces = nothing }
 
-pub slice_bounds-out-end : goal.slice_bounds-out-end
-slice_bounds-out-end c =
-    let used_inside : c.fill-filled.result.used ≤ length c.fill-filled.new.out = omega (arith, c.fill-filled.ensures.long, c.fill-filled.ensures.inside) in
-    used_inside
-
-pub slice_bounds-write_all-end : goal.slice_bounds-write_all-end
-slice_bounds-write_all-end c =
-    let used_inside : c.fill-filled.result.used ≤ length c.fill-filled.new.out = omega (arith, c.fill-filled.ensures.long, c.fill-filled.ensures.inside) in
-    sym (length-take-le _ _ used_inside)
-
 pub returns-then-not-write_all : goal.returns-then-not-write_all
 returns-then-not-write_all c =
-    let reached : Going c.args.start c.fill-filled.result.state c.fill-filled.new.out = further c.loop-out.invariant c.fill-filled.ensures in
-    let g = reached in
+    let g = further c.loop-out.invariant c.fill-filled.ensures in
     record { bytes = g.bytes; pieces = g.pieces; all = λ e. absurd (false≢true e) }
 
 pub returns-then-filled : goal.returns-then-filled
 returns-then-filled c =
-    let reached : Going c.args.start c.fill-filled.result.state c.fill-filled.new.out = further c.loop-out.invariant c.fill-filled.ensures in
-    let g = reached in
+    let g = further c.loop-out.invariant c.fill-filled.ensures in
     let d : c.fill-filled.result.done ≡ true = search rules in
     record { bytes = g.bytes; pieces = g.pieces; all = λ e. whole g (c.fill-filled.ensures.all d) }
 
-pub loop-out-smaller : goal.loop-out-smaller
-loop-out-smaller c =
-    let d : c.fill-filled.result.done ≡ false = search rules in
-    less_left _ _ _ _ c.fill-filled.ensures (omega (arith, c.loop-out.invariant.room)) d
-
 pub loop-out-preserved : goal.loop-out-preserved
-loop-out-preserved c =
-    let reached : Going c.args.start c.fill-filled.result.state c.fill-filled.new.out = further c.loop-out.invariant c.fill-filled.ensures in
-    reached
+loop-out-preserved c = further c.loop-out.invariant c.fill-filled.ensures

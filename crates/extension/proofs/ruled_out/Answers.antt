@@ -1,13 +1,10 @@
 -- `extension::ruled_out` meets its contract.
-use mathlib.Core.Bool.{false≢true}
-use Prim.Native.Nat.{suc, ◌*◌, ◌+◌, ◌-◌, ◌<◌, ◌≤◌}
-use native.Mathlib.Nat.{mul-le-mul}
+use Prim.Native.Nat.{suc, ◌*◌, ◌+◌, ◌-◌, ◌<◌}
 use native.Mathlib.Numerals.{add-one}
 use native.Mathlib.Omega.{arith}
 use lib.ListN.{length}
 use borrow.Author.Tests.{ltb-true}
 use Rattle.density.proofs.RuledOut.{too_few, too_many, too_sparse}
-use Rattle.refusal.specs.Verdicts.{most_stations}
 use Rattle.words.specs.Symbols.{sum}
 use Rattle.extension.proofs.ruled_out.Goals as goal
 
@@ -17,13 +14,6 @@ returns-then-d-h c κ = let args = c.args in too_many args.n args.d args.prefix.
 pub returns-then-more-e : goal.returns-then-more-e
 returns-then-more-e c κ = let args = c.args in too_few args.n args.d args.prefix.now (omega arith) (omega arith)
 
-pub overflow_mul-result : goal.overflow_mul-result
-overflow_mul-result c =
-    let args = c.args in
-    let z : args.z + 1 ≤ most_stations = omega arith in
-    let e : args.d - args.h ≤ most_stations = omega arith in
-    omega (arith, mul-le-mul z e)
-
 pub returns-then-z-prefix : goal.returns-then-z-prefix
 returns-then-z-prefix c κ =
     let args = c.args in
@@ -31,6 +21,3 @@ returns-then-z-prefix c κ =
     let few : (args.z + 1) * (args.d - args.h) < args.n - length a = ltb-true _ _ κ in
     let few' : suc args.z * (args.d - sum a) < args.n - length a = rw (← c.requires.3) (rw add-one at few) in
     too_sparse args.n args.d a (omega arith) args.z (omega arith) c.requires.4.front (omega (arith, c.requires.4.then (omega arith), c.requires.5 args.z (omega arith))) few'
-
-pub returns : goal.returns
-returns c κ = absurd (false≢true κ)

@@ -10,7 +10,11 @@ use Rattle.words.specs.Symbols.{Within, sum}
 use Rattle.extension.proofs.search_from.Given as goal
 
 abbrev pub invariant-loop-i : goal.invariant-loop-i
-invariant-loop-i l = (l.t ≤ l.i) × (l.i ≤ l.n) × (length l.x ≡ most_stations) × (l.ones ≡ sum (take l.i l.x)) × (l.ones ≤ l.i) × Within 2 l.x × (continues l.d l.p (l.n - l.t) (take l.t l.initial.x) ≡ continues l.d l.p (l.n - l.i) (take l.i l.x)) × Leading (take l.i l.x) l.z
-
-abbrev pub decreases-loop-i : goal.decreases-loop-i
-decreases-loop-i l = l.n - l.i
+invariant-loop-i l = record {
+  long : length l.x ≡ most_stations;
+  count : l.ones ≡ sum (take l.i l.x);
+  few : l.ones ≤ l.i;
+  within : Within 2 l.x;
+  same : continues l.d l.p (l.n - l.t) (take l.t l.initial.x) ≡ continues l.d l.p (l.n - l.i) (take l.i l.x);
+  lead : Leading (take l.i l.x) l.z;
+}

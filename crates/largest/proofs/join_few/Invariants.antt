@@ -1,6 +1,6 @@
 -- `largest::join_few` meets its contract: before block k the row stands as far as p, with zeros behind.
 use mathlib.Core.List.{List}
-use Prim.Native.Nat.{ℕ, ◌-◌, ◌≤◌}
+use Prim.Native.Nat.{ℕ, ◌≤◌}
 use Rattle.largest.proofs.FewBlocks.{FewAt}
 use Rattle.largest.proofs.FilledRow.{Filled}
 use Rattle.largest.proofs.join_few.Given as goal
@@ -13,6 +13,3 @@ pub record Inv (n d : ℕ) (row : List ℕ) (p k : ℕ) : Type 0 where
 
 abbrev pub invariant-loop-k : goal.invariant-loop-k
 invariant-loop-k l = Inv l.n l.d l.row l.p l.k
-
-abbrev pub decreases-loop-k : goal.decreases-loop-k
-decreases-loop-k l = l.d - l.k

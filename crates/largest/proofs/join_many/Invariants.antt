@@ -1,6 +1,6 @@
 -- `largest::join_many` meets its contract: before block k the row stands as far as p, with ones behind.
 use mathlib.Core.List.{List}
-use Prim.Native.Nat.{ℕ, ◌-◌, ◌≤◌}
+use Prim.Native.Nat.{ℕ, ◌≤◌}
 use Rattle.largest.proofs.FilledRow.{Filled}
 use Rattle.largest.proofs.ManyBlocks.{ManyAt}
 use Rattle.largest.proofs.join_many.Given as goal
@@ -13,6 +13,3 @@ pub record Inv (n d z : ℕ) (row : List ℕ) (p k : ℕ) : Type 0 where
 
 abbrev pub invariant-loop-k : goal.invariant-loop-k
 invariant-loop-k l = Inv l.n l.d l.z l.row l.p l.k
-
-abbrev pub decreases-loop-k : goal.decreases-loop-k
-decreases-loop-k l = l.z - l.k

@@ -1,5 +1,4 @@
 -- `lyndon_below::common_sum` meets its contract.
-use mathlib.Core.Path.{ap, ◌∙◌, ◌≡◌}
 use Prim.Native.Nat.{◌+◌}
 use native.Mathlib.Omega.{arith}
 use Rattle.counting.specs.InnerSums.{total, upto}
@@ -8,19 +7,17 @@ use Rattle.lyndon_below.specs.InnerTables.{named}
 use borrow.Author.Rules.{rules}
 use Rattle.lyndon_below.proofs.common_sum.Goals as goal
 
-pub loop-i-init : goal.loop-i-init
+pub loop-j-init : goal.loop-j-init
 unfolding total upto
-loop-i-init c = search rules
+loop-j-init c = search rules
 
 pub overflow_add-sum : goal.overflow_add-sum
 overflow_add-sum c =
-    record { fits = omega (arith, c.loop-i.invariant.1, c.entry-sum.ensures, c.requires.1, upto_next (named c.args.t.now c.args.n c.args.d) c.loop-i.i, upto_le (named c.args.t.now c.args.n c.args.d) (c.loop-i.i + 1) c.args.n (omega arith)) }
+    let f = named c.args.t.now c.args.n c.args.d in
+    let next = upto_next f c.loop-j.j in
+    let within = upto_le f (c.loop-j.j + 1) c.args.n (omega arith) in
+    record { fits = omega (arith, c.loop-j.invariant, c.entry-sum.ensures, c.requires.1, next, within) }
 
-pub loop-i-preserved : goal.loop-i-preserved
-loop-i-preserved c =
-    (omega arith, omega (arith, c.loop-i.invariant.1, c.entry-sum.ensures, upto_next (named c.args.t.now c.args.n c.args.d) c.loop-i.i))
-
-pub returns : goal.returns
-returns c =
-    let e : c.loop-i.i ≡ c.args.n = omega arith in
-    c.loop-i.invariant.1 ∙ ap (λ k. total (named c.args.t.now c.args.n c.args.d) (upto k)) e
+pub loop-j-preserved : goal.loop-j-preserved
+loop-j-preserved c =
+    omega (arith, c.loop-j.invariant, c.entry-sum.ensures, upto_next (named c.args.t.now c.args.n c.args.d) c.loop-j.j)

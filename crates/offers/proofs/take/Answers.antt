@@ -1,30 +1,42 @@
 -- `offers::take` meets its contract: by the answer of the step.
-use mathlib.Core.Path.{ap, refl, ◌∙◌, ◌≡◌}
+use mathlib.Core.Bool.{true≢false}
+use mathlib.Core.Path.{ap, sym, ◌∙◌, ◌≡◌}
 use lib.ListN.{length}
 use borrow.Author.Rules.{rules}
+use Rattle.std.specs.Prelude.{Err}
+use denote.Enum.Bare.{same_true, true_same}
 use Rattle.refusal.specs.Verdicts.{most_stations}
-use Rattle.walk.specs.declared.Answer.TheVariants.{None, Ring}
-use Rattle.offers.proofs.TakeCases.{not_taken, taken_as}
-use Rattle.offers.specs.Offers.{unmoved}
+use Rattle.walk.specs.contracts.Answer.{the_type}
+use Rattle.walk_records.proofs.SameWalks.{same_derived, same_walk_lem}
+use Rattle.offers.proofs.TakeCases.{not_taken, not_that, spent_as, taken_as}
 use Rattle.offers.proofs.take.Goals as goal
+use Rattle.offers.proofs.take.Goals.{else-eq-via-else-eq, else-eq-via-then-eq+else-eq-2}
 
-pub returns-in-Ring : goal.returns-in-Ring
-returns-in-Ring c =
+pub returns-then-eq-2 : goal.returns-then-eq-2
+returns-then-eq-2 c =
     let long : length c.args.walk.row ≡ most_stations = search rules in
-    let told = c.in-Ring.is in
-    let t = taken_as c.args.walk c.args.offer long _ c.step-stepped.ensures.answer Ring told refl c.taking.ensures in
+    let same = same_true the_type (search rules) _ _ (sym c.eq.ensures ∙ c.if-eq.true) in
+    let moved = (same_walk_lem _ _).0 (sym (same_derived _ _ c.eq-then-eq.ensures) ∙ c.if-eq-2.true) in
+    let t = taken_as c.args.walk c.args.offer long _ c.step-stepped.ensures.answer _ c.in-Ok.is same moved in
     record { answer = t.0; numbers = t.1 }
 
-pub returns-in-None : goal.returns-in-None
-returns-in-None c =
+pub returns-else-eq : goal.returns-else-eq
+returns-else-eq c =
     let long : length c.args.walk.row ≡ most_stations = search rules in
-    let told = c.in-None.is in
-    let t = taken_as c.args.walk c.args.offer long _ c.step-stepped.ensures.answer None told refl c.taking-in-None.ensures in
+    let t = not_that c.args.walk c.args.offer long _ c.step-stepped.ensures.answer _ c.in-Ok.is (λ p q. elim c.else-eq.branch [
+      | else-eq-via-then-eq+else-eq-2 w ↦ true≢false (sym ((same_walk_lem _ _).1 q) ∙ sym (same_derived _ _ w.eq-then-eq.ensures) ∙ w.if-eq-2.false)
+      | else-eq-via-else-eq w ↦ true≢false (sym (true_same the_type _ _ p) ∙ sym c.eq.ensures ∙ w.if-eq.false)
+    ]) c.refusing.ensures in
     record { answer = t.0; numbers = t.1 }
 
-pub returns-in-Refused : goal.returns-in-Refused
-returns-in-Refused c =
+pub returns-in-Spent : goal.returns-in-Spent
+returns-in-Spent c =
     let long : length c.args.walk.row ≡ most_stations = search rules in
-    let t = not_taken c.args.walk c.args.offer long _ c.step-stepped.ensures.answer _ c.in-Refused.is
-    (c.refusing.ensures ∙ ap (unmoved c.args.walk) c.refused_by.ensures) in
+    let t = spent_as c.args.walk c.args.offer long _ c.step-stepped.ensures.answer (c.in-Err.is ∙ ap Err c.in-Spent.is) c.refusing-in-Spent.ensures in
+    record { answer = t.0; numbers = t.1 }
+
+pub returns-in_default : goal.returns-in_default
+returns-in_default c =
+    let long : length c.args.walk.row ≡ most_stations = search rules in
+    let t = not_taken c.args.walk c.args.offer long _ c.step-stepped.ensures.answer _ c.in_default.not-Spent c.in-Err.is c.refusing-in_default.ensures in
     record { answer = t.0; numbers = t.1 }

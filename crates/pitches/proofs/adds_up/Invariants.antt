@@ -1,7 +1,7 @@
 -- `pitches::adds_up` meets its contract: the pitches to come add up to what is left exactly if all of them do to n.
 use mathlib.Core.List.{List}
 use mathlib.Core.Path.{◌≡◌}
-use Prim.Native.Nat.{ℕ, ◌-◌, ◌≤◌}
+use Prim.Native.Nat.{ℕ, ◌≤◌}
 use lib.Dec.{eqb}
 use lib.ListN.{drop, length}
 use Rattle.pitches.specs.Pitches.{adds_up}
@@ -12,8 +12,5 @@ pub record Inv (n : ℕ) (pitches : List ℕ) (left k : ℕ) : Type 0 where
   pub inside : k ≤ length pitches
   pub rest : adds_up n pitches ≡ eqb (sum (drop k pitches)) left
 
-abbrev pub invariant-loop-k : goal.invariant-loop-k
-invariant-loop-k l = Inv l.n l.pitches l.left l.k
-
-abbrev pub decreases-loop-k : goal.decreases-loop-k
-decreases-loop-k l = length l.pitches - l.k
+abbrev pub invariant-loop-pitch : goal.invariant-loop-pitch
+invariant-loop-pitch l = Inv l.n l.pitches l.left l.pitch-index

@@ -1,20 +1,16 @@
--- `pitches::first_zero` meets its contract: it looks for the first pitch of 0.
-use native.Mathlib.Omega.{arith}
-use borrow.Author.Tests.{eq-eqb, ne_eqb}
-use Rattle.words.proofs.FirstPlaces.{looked_all, looked_here, looked_on, looked_start}
+-- `pitches::first_zero` meets its contract: the place of the first pitch of 0.
+use Rattle.std.proofs.Common.{ap, rules, tests, ◌+◌, ◌∙◌, ◌≡◌}
+use Rattle.std.proofs.Math.Dec.{eqb}
+use Rattle.std.proofs.lemmas.Iterator.{YieldsList-from_slice}
+use Rattle.std.proofs.lemmas.Iterator.Search.{position_from_yields_List}
+use Rattle.std.specs.Option.{option_map}
+use Rattle.words.proofs.FirstPlaces.{first_found}
 use Rattle.pitches.specs.Pitches.{first_zero}
 use Rattle.pitches.proofs.first_zero.Goals as goal
 
-pub returns-then-pitches-k-eq0 : goal.returns-then-pitches-k-eq0
-unfolding first_zero
-returns-then-pitches-k-eq0 c = looked_here c.loop-k.invariant (omega arith) (eq-eqb _ _ c.if-pitches-k-eq0.true)
-
-pub loop-k-preserved : goal.loop-k-preserved
-loop-k-preserved c = looked_on c.loop-k.invariant (omega arith) (ne_eqb _ _ c.if-pitches-k-eq0.false)
-
 pub returns : goal.returns
 unfolding first_zero
-returns c = looked_all c.loop-k.invariant (omega arith)
-
-pub loop-k-init : goal.loop-k-init
-loop-k-init c = looked_start _ _
+returns c =
+    let at = position_from_yields_List (λ p. eqb p 0) _ _ _ c.position.ensures.ran (YieldsList-from_slice c.args.pitches.now cc) (λ x b q k. search (rules, tests)) in
+    let next : c.map.result ≡ option_map (λ k. k + 1) c.position.result = search rules in
+    next ∙ ap (option_map (λ k. k + 1)) at ∙ first_found _ _

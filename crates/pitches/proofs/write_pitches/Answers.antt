@@ -12,11 +12,11 @@ use Rattle.pitches.specs.Pitches.{pitches_from, pitches_of_row}
 use Rattle.words.proofs.Front.{front_all, front_turn}
 use Rattle.pitches.proofs.write_pitches.Invariants.{Inv}
 use Rattle.pitches.proofs.write_pitches.Goals as goal
-use Rattle.pitches.proofs.write_pitches.Goals.{else-row-i-eq0, then-row-i-eq0}
+use Rattle.pitches.proofs.write_pitches.Goals.{else-x-eq0, then-x-eq0}
 
-pub loop-i-init : goal.loop-i-init
+pub loop-x-init : goal.loop-x-init
 unfolding pitches_of_row
-loop-i-init c = record { inside = search rules; some = search rules; few = search rules; upto = search rules; rest = refl; long = refl; front = refl }
+loop-x-init c = record { inside = search rules; some = search rules; few = search rules; upto = search rules; rest = refl; long = refl; front = refl }
 
 module _ (w O out : List ℕ) (k p i : ℕ) (v : Inv w O out k p i) (room : length (pitches_of_row w) ≤ length O) (h : i < length w) where
   pitch_is : suc (p - 1) ≡ p
@@ -55,30 +55,30 @@ module _ (w O out : List ℕ) (k p i : ℕ) (v : Inv w O out k p i) (room : leng
         front = front_turn (pitches_of_row w) O out k p g.0 (omega (arith, g.0)) v.front (sym g.1);
       }
 
-pub loop-i-preserved : goal.loop-i-preserved
-loop-i-preserved c =
-    let l = c.loop-i in
+pub loop-x-preserved : goal.loop-x-preserved
+loop-x-preserved c =
+    let l = c.loop-x in
     let w = c.args.row.now in
     let O = c.args.out.now in
-    let h : l.i < length w = omega arith in
-    elim c.if-row-i-eq0.branch [ then-row-i-eq0 q ↦ rw (q.out-is, q.k-is, q.pitch-is) (zero_turn w O l.out l.k l.pitch l.i l.invariant c.requires h q.if-row-i-eq0.true) | else-row-i-eq0 q ↦ rw (q.out-is, q.k-is, q.pitch-is) (hole_turn w O l.out l.k l.pitch l.i l.invariant c.requires h q.if-row-i-eq0.false) ]
+    let h : l.x-index < length w = omega arith in
+    elim c.if-x-eq0.branch [ then-x-eq0 q ↦ rw (q.out-is, q.k-is, q.pitch-is) (zero_turn w O l.out l.k l.pitch l.x-index l.invariant c.requires h q.if-x-eq0.true) | else-x-eq0 q ↦ rw (q.out-is, q.k-is, q.pitch-is) (hole_turn w O l.out l.k l.pitch l.x-index l.invariant c.requires h q.if-x-eq0.false) ]
 
 pub returns : goal.returns
 unfolding pitches_from
 returns c =
-    let l = c.loop-i in
+    let l = c.loop-x in
     let w = c.args.row.now in
     let O = c.args.out.now in
-    let ended : length w ≤ l.i = omega arith in
+    let ended : length w ≤ l.x-index = omega arith in
     let done : drop l.k (pitches_of_row w) ≡ [] = l.invariant.rest ∙ ap (pitches_from (l.pitch - 1)) (drop_of_length-le w ended) in
     let all : l.k ≡ length (pitches_of_row w) = omega (arith, simp length-drop at (ap length done)) in
     record { count = all; buffer = front_all (pitches_of_row w) O l.out l.k all l.invariant.front }
 
 pub bounds-out-k : goal.bounds-out-k
-bounds-out-k c = omega (arith, (pitch_left c.args.row.now c.args.out.now c.loop-i.out c.loop-i.k c.loop-i.pitch c.loop-i.i c.loop-i.invariant c.requires (omega arith) c.if-row-i-eq0.false).0)
+bounds-out-k c = omega (arith, (pitch_left c.args.row.now c.args.out.now c.loop-x.out c.loop-x.k c.loop-x.pitch c.loop-x.x-index c.loop-x.invariant c.requires (omega arith) c.if-x-eq0.false).0)
 
 pub overflow_add-k : goal.overflow_add-k
-overflow_add-k c = omega (arith, (pitch_left c.args.row.now c.args.out.now c.loop-i.out c.loop-i.k c.loop-i.pitch c.loop-i.i c.loop-i.invariant c.requires (omega arith) c.if-row-i-eq0.false).0)
+overflow_add-k c = omega (arith, (pitch_left c.args.row.now c.args.out.now c.loop-x.out c.loop-x.k c.loop-x.pitch c.loop-x.x-index c.loop-x.invariant c.requires (omega arith) c.if-x-eq0.false).0)
 
 pub shape_of-out : goal.shape_of-out
-shape_of-out c = c.loop-i.invariant.long
+shape_of-out c = c.loop-x.invariant.long

@@ -17,8 +17,5 @@ pub record Inv (w O out : List ℕ) (k p i : ℕ) : Type 0 where
   pub long : length out ≡ length O
   pub front : Front (pitches_of_row w) O k out
 
-abbrev pub invariant-loop-i : goal.invariant-loop-i
-invariant-loop-i l = Inv l.row l.initial.out l.out l.k l.pitch l.i
-
-abbrev pub decreases-loop-i : goal.decreases-loop-i
-decreases-loop-i l = length l.row - l.i
+abbrev pub invariant-loop-x : goal.invariant-loop-x
+invariant-loop-x l = Inv l.row l.initial.out l.out l.k l.pitch l.x-index

@@ -75,36 +75,36 @@ module _ (n : ℕ) (O X : List ℕ) (e : X ≡ fronted (zeros n) O) (r : n ≤ l
   cleared_length : length X ≡ length O
   cleared_length = ap length e ∙ rw (length-append, length-drop, length-replicate) (omega arith)
 
-pub loop-k-init : goal.loop-k-init
-loop-k-init c =
+pub loop-pitch-init : goal.loop-pitch-init
+loop-pitch-init c =
     let O = c.args.out.now in
     let n = c.args.n in
     let e = c.clear.ensures in
     start n c.args.pitches.now _ c.requires.pitches_value_2 (omega (arith, cleared_length n O _ e c.requires.n_in_bounds)) (cleared n O _ e c.requires.n_in_bounds)
 
-pub loop-k-preserved : goal.loop-k-preserved
-loop-k-preserved c =
-    let l = c.loop-k in
-    turn c.args.n c.args.pitches.now _ l.out l.place l.k l.invariant (omega arith) (no_zero _ c.requires.pitches_value)
+pub loop-pitch-preserved : goal.loop-pitch-preserved
+loop-pitch-preserved c =
+    let l = c.loop-pitch in
+    turn c.args.n c.args.pitches.now _ l.out l.place l.pitch-index l.invariant (omega arith) (no_zero _ c.requires.pitches_value)
 
 pub shape_of-out : goal.shape_of-out
 shape_of-out c =
-    c.loop-k.invariant.long ∙ cleared_length c.args.n c.args.out.now _ c.clear.ensures c.requires.n_in_bounds
+    c.loop-pitch.invariant.long ∙ cleared_length c.args.n c.args.out.now _ c.clear.ensures c.requires.n_in_bounds
 
 pub returns : goal.returns
 returns c =
-    let l = c.loop-k in
+    let l = c.loop-pitch in
     let n = c.args.n in
     let pitches = c.args.pitches.now in
-    finish n pitches _ l.out l.place l.k l.invariant (omega arith)
+    finish n pitches _ l.out l.place l.pitch-index l.invariant (omega arith)
     ∙ ap (λ w. row_of_pitches n pitches ++ w) (behind n c.args.out.now _ c.clear.ensures c.requires.n_in_bounds)
     ∙ rw (row_length n pitches c.requires.pitches_value_2)
 
 pub overflow_add-place : goal.overflow_add-place
-overflow_add-place c = omega (arith, within c.args.n c.args.pitches.now _ c.loop-k.out c.loop-k.place c.loop-k.k c.loop-k.invariant (omega arith) (no_zero _ c.requires.pitches_value))
+overflow_add-place c = omega (arith, within c.args.n c.args.pitches.now _ c.loop-pitch.out c.loop-pitch.place c.loop-pitch.pitch-index c.loop-pitch.invariant (omega arith) (no_zero _ c.requires.pitches_value))
 
 pub overflow_sub-out : goal.overflow_sub-out
-overflow_sub-out c = omega (arith, within c.args.n c.args.pitches.now _ c.loop-k.out c.loop-k.place c.loop-k.k c.loop-k.invariant (omega arith) (no_zero _ c.requires.pitches_value))
+overflow_sub-out c = omega (arith, within c.args.n c.args.pitches.now _ c.loop-pitch.out c.loop-pitch.place c.loop-pitch.pitch-index c.loop-pitch.invariant (omega arith) (no_zero _ c.requires.pitches_value))
 
 pub bounds-out-place : goal.bounds-out-place
-bounds-out-place c = omega (arith, within c.args.n c.args.pitches.now _ c.loop-k.out c.loop-k.place c.loop-k.k c.loop-k.invariant (omega arith) (no_zero _ c.requires.pitches_value))
+bounds-out-place c = omega (arith, within c.args.n c.args.pitches.now _ c.loop-pitch.out c.loop-pitch.place c.loop-pitch.pitch-index c.loop-pitch.invariant (omega arith) (no_zero _ c.requires.pitches_value))

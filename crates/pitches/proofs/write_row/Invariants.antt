@@ -16,8 +16,5 @@ pub record Inv (n : ℕ) (pitches O out : List ℕ) (place k : ℕ) : Type 0 whe
   pub long : length out ≡ length O
   pub holds : out ≡ blocks (take k pitches) ++ (zeros (n - place) ++ drop n O)
 
-abbrev pub invariant-loop-k : goal.invariant-loop-k
-invariant-loop-k l = Inv l.n l.pitches l.initial.out l.out l.place l.k
-
-abbrev pub decreases-loop-k : goal.decreases-loop-k
-decreases-loop-k l = length l.pitches - l.k
+abbrev pub invariant-loop-pitch : goal.invariant-loop-pitch
+invariant-loop-pitch l = Inv l.n l.pitches l.initial.out l.out l.place l.pitch-index

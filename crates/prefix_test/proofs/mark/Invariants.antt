@@ -1,5 +1,4 @@
--- `prefix_test::mark` is safe and ends.
-use Prim.Native.Nat.{◌<◌}
+use Rattle.std.proofs.Common.{◌<◌}
 use Rattle.prefix_test.proofs.mark.Given as goal
 
 abbrev pub invariant-loop-rest : goal.invariant-loop-rest

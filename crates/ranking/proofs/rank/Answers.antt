@@ -1,26 +1,22 @@
 -- `ranking::rank` meets its contract: it refuses what the check of the kind that stands for it refuses.
-use mathlib.Core.Path.{ap, refl, sym, ◌∙◌, ◌≡◌}
-use Rattle.density.specs.Drawers.{checked_verdict}
+use mathlib.Core.Path.{ap, ◌∙◌}
 use Rattle.density.specs.Ranks.{rank}
-use Rattle.ranking.proofs.Verdicts.{as_opening, ranked}
-use Rattle.ranking.specs.Answers.{rank_verdict}
-use Rattle.refusal.specs.Outcomes.{given}
-use Rattle.refusal.specs.Verdicts.{accepted}
+use Rattle.ranking.proofs.Verdicts.{rank_accepted, rank_refused}
+use Rattle.refusal.proofs.Outcomes.{handed_on}
+use Rattle.std.specs.Prelude.{Ok}
 use Rattle.ranking.proofs.rank.Goals as goal
 
+pub returns-in_err-check_opening : goal.returns-in_err-check_opening
+returns-in_err-check_opening c =
+    let v = rank_refused _ _ _ _ c.counted.ensures _ c.check_opening.ensures c.in_err-check_opening.was in
+    handed_on _ c.from_residual.ensures.1 ∙ rw v
+
 pub rank_of-requires : goal.rank_of-requires
-rank_of-requires c = let r =
-    let verdict : rank_verdict c.args.n c.args.d c.args.kind c.args.row.now ≡ checked_verdict c.check_opening-checked.result = sym (as_opening c.args.n c.args.d c.args.kind c.counted.result c.counted.ensures c.args.row.now) ∙ sym c.check_opening-checked.ensures in
-    let passes : rank_verdict c.args.n c.args.d c.args.kind c.args.row.now ≡ accepted = verdict ∙ ap checked_verdict c.in-Accepted.is in
-    ranked _ _ _ _ passes in (r.given, r.counted)
+rank_of-requires c =
+    let r = rank_accepted _ _ _ _ c.counted.ensures _ c.check_opening.ensures c.in_ok-check_opening.was in
+    (r.given, r.counted)
 
-pub returns-in-Refused : goal.returns-in-Refused
-returns-in-Refused c =
-    let verdict : rank_verdict c.args.n c.args.d c.args.kind c.args.row.now ≡ checked_verdict c.check_opening-checked.result = sym (as_opening c.args.n c.args.d c.args.kind c.counted.result c.counted.ensures c.args.row.now) ∙ sym c.check_opening-checked.ensures in
-    rw (verdict ∙ ap checked_verdict c.in-Refused.is) refl
-
-pub returns-in-Accepted : goal.returns-in-Accepted
-returns-in-Accepted c =
-    let verdict : rank_verdict c.args.n c.args.d c.args.kind c.args.row.now ≡ checked_verdict c.check_opening-checked.result = sym (as_opening c.args.n c.args.d c.args.kind c.counted.result c.counted.ensures c.args.row.now) ∙ sym c.check_opening-checked.ensures in
-    let passes : rank_verdict c.args.n c.args.d c.args.kind c.args.row.now ≡ accepted = verdict ∙ ap checked_verdict c.in-Accepted.is in
-    rw passes (ap given (c.rank_of.ensures ∙ ap (λ n. rank n c.args.d c.args.kind c.args.row.now) (ranked _ _ _ _ passes).long))
+pub returns : goal.returns
+returns c =
+    let r = rank_accepted _ _ _ _ c.counted.ensures _ c.check_opening.ensures c.in_ok-check_opening.was in
+    rw r.verdict (ap Ok (c.rank_of.ensures ∙ ap (λ n. rank n c.args.d c.args.kind c.args.row.now) r.long))

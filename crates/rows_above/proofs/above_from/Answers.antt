@@ -19,9 +19,6 @@ pub returns-then-zeros-eq0 : goal.returns-then-zeros-eq0
 returns-then-zeros-eq0 c =
     read_last c.args.v.now c.requires.1 c.args.e c.args.t.now c.requires.2 c.loop-ones.sum c.loop-ones.ones c.loop-ones.zeros c.loop-ones.s c.loop-ones.invariant (omega arith) c.if-v-s-eq0.true c.if-zeros-eq0.true
 
-pub loop-ones-smaller : goal.loop-ones-smaller
-loop-ones-smaller c = elim c.if-v-s-eq0.branch [ then-v-s-eq0+else-zeros-eq0 w ↦ omega arith | else-v-s-eq0 w ↦ omega arith ]
-
 pub loop-ones-preserved : goal.loop-ones-preserved
 loop-ones-preserved c =
     elim c.if-v-s-eq0.branch [ then-v-s-eq0+else-zeros-eq0 w ↦ rw (w.sum-is, w.ones-is, w.zeros-is) (read_zero c.args.v.now c.requires.1 c.args.e c.args.t.now c.requires.2 c.loop-ones.sum c.loop-ones.ones c.loop-ones.zeros c.loop-ones.s c.loop-ones.invariant (omega arith) w.if-v-s-eq0.true w.if-zeros-eq0.false) | else-v-s-eq0 w ↦ rw (w.sum-is, w.ones-is, w.zeros-is) (read_one c.args.v.now c.requires.1 c.args.e c.args.t.now c.requires.2 c.loop-ones.sum c.loop-ones.ones c.loop-ones.zeros c.loop-ones.s c.loop-ones.invariant (omega arith) (omega arith)) ]

@@ -10,36 +10,9 @@ use Rattle.rows_above.proofs.fill_row.Goals as goal
 before_row : (g ones passed zeros : ℕ) → ones < g → zeros ≤ 64 → (g - 1 - ones) * 65 + (zeros + 1 - passed) ≤ g * 65 + passed
 before_row g ones passed zeros h s = let p : g - 1 - ones + 1 ≤ g = omega arith in omega (arith, mul-le-mul_right 65 p)
 
-pub overflow_mul-g : goal.overflow_mul-g
-overflow_mul-g c = omega (arith, c.requires.1, c.requires.2.few)
-
-pub clear-requires : goal.clear-requires
-clear-requires c = (c.requires.3, omega (arith, c.requires.1, c.requires.2.few))
-
 pub loop-ones-init : goal.loop-ones-init
 loop-ones-init c =
     row_start c.args.v.now c.args.g c.args.zeros c.requires.2 c.requires.0 c.requires.1 c.args.t.now _ c.requires.4 c.clear.ensures
-
-pub overflow_add-ones : goal.overflow_add-ones
-overflow_add-ones c = omega (arith, c.requires.1, c.requires.2.few)
-
-pub bounds-v-ones : goal.bounds-v-ones
-bounds-v-ones c = omega (arith, c.requires.1)
-
-pub overflow_mul-g-then-v-ones-eq0 : goal.overflow_mul-g-then-v-ones-eq0
-overflow_mul-g-then-v-ones-eq0 c = omega (arith, c.requires.1, c.requires.2.few)
-
-pub overflow_add-g : goal.overflow_add-g
-overflow_add-g c = omega (arith, c.requires.1, c.requires.2.few)
-
-pub overflow_mul-g-then-v-ones-eq0-2 : goal.overflow_mul-g-then-v-ones-eq0-2
-overflow_mul-g-then-v-ones-eq0-2 c = omega (arith, c.requires.1, c.requires.2.few)
-
-pub overflow_add-zeros-then-v-ones-eq0 : goal.overflow_add-zeros-then-v-ones-eq0
-overflow_add-zeros-then-v-ones-eq0 c = omega (arith, c.requires.1, c.requires.2.few)
-
-pub overflow_sub-zeros : goal.overflow_sub-zeros
-overflow_sub-zeros c = omega (arith, c.requires.1, c.requires.2.few)
 
 pub add-requires : goal.add-requires
 add-requires c = (
@@ -50,19 +23,10 @@ add-requires c = (
       (c.args.g - 1 - c.loop-ones.ones) (omega arith) c.if-v-ones-eq0.true,
 )
 
-pub overflow_add-passed : goal.overflow_add-passed
-overflow_add-passed c = omega (arith, c.requires.1, c.requires.2.few)
-
-pub loop-ones-smaller-then-v-ones-eq0 : goal.loop-ones-smaller-then-v-ones-eq0
-loop-ones-smaller-then-v-ones-eq0 c = omega (arith, c.requires.1, c.requires.2.few)
-
 pub loop-ones-preserved-then-v-ones-eq0 : goal.loop-ones-preserved-then-v-ones-eq0
 loop-ones-preserved-then-v-ones-eq0 c =
     row_zero c.args.v.now c.args.g c.args.zeros c.requires.2 c.requires.0 c.requires.1 c.loop-ones.t c.loop-ones.ones c.loop-ones.passed c.loop-ones.invariant c.loop-ones-test.true c.if-passed-zeros.true
     (c.args.g - 1 - c.loop-ones.ones) (omega arith) c.if-v-ones-eq0.true _ c.add.ensures
-
-pub loop-ones-smaller : goal.loop-ones-smaller
-loop-ones-smaller c = omega (arith, c.requires.1, c.requires.2.few)
 
 pub loop-ones-preserved : goal.loop-ones-preserved
 loop-ones-preserved c =

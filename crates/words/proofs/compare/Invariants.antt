@@ -1,5 +1,4 @@
 -- `words::compare` meets its contract: the laws of Comparing, at each place of the code.
-use Prim.Native.Nat.{◌-◌}
 use Rattle.words.proofs.Comparing.{Bytes, Words}
 use Rattle.words.proofs.compare.Given as goal
 
@@ -8,9 +7,3 @@ invariant-loop-k l = Words l.a l.b l.shorter l.words l.k
 
 abbrev pub invariant-loop-i : goal.invariant-loop-i
 invariant-loop-i l = Bytes l.a l.b l.shorter l.words l.i
-
-abbrev pub decreases-loop-k : goal.decreases-loop-k
-decreases-loop-k l = l.words - l.k
-
-abbrev pub decreases-loop-i : goal.decreases-loop-i
-decreases-loop-i l = l.shorter - l.i

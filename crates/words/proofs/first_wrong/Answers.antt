@@ -1,20 +1,16 @@
--- `words::first_wrong` meets its contract: it looks for the first symbol that is not below k.
-use native.Mathlib.Omega.{arith}
-use borrow.Author.Tests.{le-leb, lt-leb}
-use Rattle.words.proofs.FirstPlaces.{looked_all, looked_here, looked_on, looked_start}
+-- `words::first_wrong` meets its contract: the place of the first symbol that is not below k.
+use Rattle.std.proofs.Common.{ap, rules, tests, ◌+◌, ◌∙◌, ◌≡◌}
+use Rattle.std.proofs.Math.Dec.{leb}
+use Rattle.std.proofs.lemmas.Iterator.{YieldsList-from_slice}
+use Rattle.std.proofs.lemmas.Iterator.Search.{position_from_yields_List}
+use Rattle.std.specs.Option.{option_map}
+use Rattle.words.proofs.FirstPlaces.{first_found}
 use Rattle.words.specs.Symbols.{first_wrong}
 use Rattle.words.proofs.first_wrong.Goals as goal
 
-pub returns-then-k-row : goal.returns-then-k-row
-unfolding first_wrong
-returns-then-k-row c = looked_here c.loop-i.invariant (omega arith) (le-leb _ _ c.if-k-row.true)
-
-pub loop-i-preserved : goal.loop-i-preserved
-loop-i-preserved c = looked_on c.loop-i.invariant (omega arith) (lt-leb _ _ c.if-k-row.false)
-
 pub returns : goal.returns
 unfolding first_wrong
-returns c = looked_all c.loop-i.invariant (omega arith)
-
-pub loop-i-init : goal.loop-i-init
-loop-i-init c = looked_start _ _
+returns c =
+    let at = position_from_yields_List (λ x. leb c.args.k x) _ _ _ c.position.ensures.ran (YieldsList-from_slice c.args.row.now cc) (λ x b q k. search (rules, tests)) in
+    let next : c.map.result ≡ option_map (λ i. i + 1) c.position.result = search rules in
+    next ∙ ap (option_map (λ i. i + 1)) at ∙ first_found _ _

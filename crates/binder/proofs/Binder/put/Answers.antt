@@ -1,7 +1,7 @@
 -- `binder::Binder::put` meets its contract: the laws of UnderName, at each return.
-use mathlib.Core.Path.{sym, ◌∙◌}
+use mathlib.Core.Path.{refl, sym, ◌∙◌}
 use native.Mathlib.Omega.{arith}
-use Rattle.binder.proofs.UnderName.{put_above, put_done, put_refused, put_unfit}
+use Rattle.binder.proofs.UnderName.{put_above, put_accepted, put_refused, put_unfit}
 use Rattle.binder.proofs.Binder.put.Goals as goal
 
 -- a name above 7
@@ -23,5 +23,4 @@ pub returns : goal.returns
 returns c =
     let a = c.args in
     let fits = sym c.is_fit.ensures ∙ c.if-not-is_fit.false in
-    let t = put_done a.self a.name a.walk (omega (arith, c.if-name-ge-NAMES.false)) fits c.filing.ensures in
-    record { answer = t.0; binder = t.1 }
+    rw (put_accepted a.name a.walk (omega (arith, c.if-name-ge-NAMES.false)) fits) (record { answer = refl; binder = refl })

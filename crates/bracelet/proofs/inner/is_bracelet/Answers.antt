@@ -9,7 +9,7 @@ use Rattle.words.specs.Order.{cmp, order_of}
 use Rattle.words.specs.Rotation.{rotation}
 use Rattle.bracelet.proofs.Against.{passed_all, passed_equal, passed_lower, passed_more, passed_none}
 use Rattle.bracelet.proofs.inner.is_bracelet.Goals as goal
-use Rattle.words.specs.declared.Order.{Order}
+use Rattle.std.specs.declared.cmp.Ordering.{Ordering as Answer}
 
 pub loop-j-init : goal.loop-j-init
 loop-j-init c =
@@ -20,13 +20,13 @@ loop-j-init c =
     record { whole = refl; rest = _; twice = t; room = twice_room row _ _ t; passed = passed_none row }
 
 -- the row against the next rotation
-against : (row back rest : List ℕ) (n j : ℕ) (r : Order) → n ≡ length row → back ≡ reverse row ++ (reverse row ++ rest) → j ≤ n → r ≡ order_of (cmp row (take (j + n - j) (drop j back))) → r ≡ order_of (cmp row (rotation j (reverse row)))
+against : (row back rest : List ℕ) (n j : ℕ) (r : Answer) → n ≡ length row → back ≡ reverse row ++ (reverse row ++ rest) → j ≤ n → r ≡ order_of (cmp row (take (j + n - j) (drop j back))) → r ≡ order_of (cmp row (rotation j (reverse row)))
 against row back rest n j r w t h e = e ∙ ap (λ x. order_of (cmp row x)) (turn_part row back rest n j w t h)
 
-pub returns-in-Higher : goal.returns-in-Higher
-returns-in-Higher c =
+pub returns-in-Greater : goal.returns-in-Greater
+returns-in-Greater c =
     let l = c.loop-j in
-    passed_lower l.invariant.passed (omega arith) _ (against _ _ l.invariant.rest _ _ _ refl l.invariant.twice (omega arith) c.compare-compared.ensures.order) c.in-Higher.is
+    passed_lower l.invariant.passed (omega arith) _ (against _ _ l.invariant.rest _ _ _ refl l.invariant.twice (omega arith) c.compare-compared.ensures.order) c.in-Greater.is
 
 pub returns-in-Equal : goal.returns-in-Equal
 returns-in-Equal c =
@@ -36,7 +36,7 @@ returns-in-Equal c =
 pub loop-j-preserved : goal.loop-j-preserved
 loop-j-preserved c =
     let l = c.loop-j in
-    record { whole = refl; rest = l.invariant.rest; twice = l.invariant.twice; room = l.invariant.room; passed = passed_more l.invariant.passed (omega arith) _ (against _ _ l.invariant.rest _ _ _ refl l.invariant.twice (omega arith) c.compare-compared.ensures.order) c.in-Lower.is }
+    record { whole = refl; rest = l.invariant.rest; twice = l.invariant.twice; room = l.invariant.room; passed = passed_more l.invariant.passed (omega arith) _ (against _ _ l.invariant.rest _ _ _ refl l.invariant.twice (omega arith) c.compare-compared.ensures.order) c.in-Less.is }
 
 pub returns : goal.returns
 returns c = passed_all c.loop-j.invariant.passed c.requires.0 c.requires.2 (omega arith)

@@ -1,7 +1,7 @@
 -- `bracelet::inner::is_bracelet` meets its contract: the laws of Against, at each place of the code.
 use mathlib.Core.List.{List, reverse, ◌++◌}
 use mathlib.Core.Path.{◌≡◌}
-use Prim.Native.Nat.{ℕ, ◌+◌, ◌-◌, ◌≤◌}
+use Prim.Native.Nat.{ℕ, ◌+◌, ◌≤◌}
 use lib.ListN.{length}
 use Rattle.bracelet.proofs.Against.{Passed}
 use Rattle.bracelet.proofs.inner.is_bracelet.Given as goal
@@ -16,6 +16,3 @@ pub record Inv (row back : List ℕ) (n j : ℕ) : Type 0 where
 
 abbrev pub invariant-loop-j : goal.invariant-loop-j
 invariant-loop-j l = Inv l.row l.back l.n l.j
-
-abbrev pub decreases-loop-j : goal.decreases-loop-j
-decreases-loop-j l = l.n - l.j

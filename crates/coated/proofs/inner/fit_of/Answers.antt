@@ -9,7 +9,8 @@ use Rattle.bracelet.proofs.Parts.{reversed_part, reversed_room}
 use Rattle.coated.proofs.FitAnswers.{Searched, fit_both, fit_different, fit_over, fit_turning}
 use Rattle.coated.specs.Answers.{turn_found}
 use Rattle.coated.specs.Fitting.{nearest_turn, rotates_to}
-use Rattle.coated.specs.declared.inner.Turn.{Turn}
+use lib.IntN.{ℤ}
+use Rattle.std.specs.Prelude.{Option}
 use Rattle.refusal.specs.Verdicts.{most_stations}
 use Rattle.words.specs.Buffers.{fronted}
 use Rattle.coated.proofs.inner.fit_of.Goals as goal
@@ -30,7 +31,7 @@ nearest_turn-over-requires c =
     (omega (arith, l, c.requires), omega (arith, l, c.requires), omega (arith, l, c.requires))
 
 -- what the two searches gave
-searched : (row other back rest : List ℕ) (p o : Turn) → 0 < length row → length row ≤ most_stations
+searched : (row other back rest : List ℕ) (p o : Option ℤ) → 0 < length row → length row ≤ most_stations
     → p ≡ turn_found (rotates_to row other) (nearest_turn row other)
     → back ≡ fronted (reverse row) rest
     → o ≡ turn_found (rotates_to (take (length row) back) other) (nearest_turn (take (length row) back) other)
@@ -43,18 +44,18 @@ searched row other back rest p o s m e b f =
       over = f ∙ ap (λ w. turn_found (rotates_to w other) (nearest_turn w other)) (reversed_part row rest back b);
     }
 
-pub returns-in-By-over : goal.returns-in-By-over
-returns-in-By-over c = fit_both (searched _ _ _ _ _ _ c.requires.0 c.requires.1 c.nearest_turn-plain.ensures c.write_reversed.ensures c.nearest_turn-over.ensures) _ _
-    c.in-By.is c.in-By-over.is
+pub returns-in-None-None : goal.returns-in-None-None
+returns-in-None-None c = fit_different (searched _ _ _ _ _ _ c.requires.0 c.requires.1 c.nearest_turn-plain.ensures c.write_reversed.ensures c.nearest_turn-over.ensures)
+    c.in-None-None.is-0 c.in-None-None.is-1
 
-pub returns-in-Never-over : goal.returns-in-Never-over
-returns-in-Never-over c = fit_turning (searched _ _ _ _ _ _ c.requires.0 c.requires.1 c.nearest_turn-plain.ensures c.write_reversed.ensures c.nearest_turn-over.ensures) _
-    c.in-By.is c.in-Never-over.is
+pub returns-in-None-Some : goal.returns-in-None-Some
+returns-in-None-Some c = fit_over (searched _ _ _ _ _ _ c.requires.0 c.requires.1 c.nearest_turn-plain.ensures c.write_reversed.ensures c.nearest_turn-over.ensures) _
+    c.in-None-Some.is-0 c.in-None-Some.is-1
 
-pub returns-in-By-over-2 : goal.returns-in-By-over-2
-returns-in-By-over-2 c = fit_over (searched _ _ _ _ _ _ c.requires.0 c.requires.1 c.nearest_turn-plain.ensures c.write_reversed.ensures c.nearest_turn-over.ensures) _
-    c.in-Never.is c.in-By-over-2.is
+pub returns-in-Some-None : goal.returns-in-Some-None
+returns-in-Some-None c = fit_turning (searched _ _ _ _ _ _ c.requires.0 c.requires.1 c.nearest_turn-plain.ensures c.write_reversed.ensures c.nearest_turn-over.ensures) _
+    c.in-Some-None.is-0 c.in-Some-None.is-1
 
-pub returns-in-Never-over-2 : goal.returns-in-Never-over-2
-returns-in-Never-over-2 c = fit_different (searched _ _ _ _ _ _ c.requires.0 c.requires.1 c.nearest_turn-plain.ensures c.write_reversed.ensures c.nearest_turn-over.ensures) c.in-Never.is
-    c.in-Never-over-2.is
+pub returns-in-Some-Some : goal.returns-in-Some-Some
+returns-in-Some-Some c = fit_both (searched _ _ _ _ _ _ c.requires.0 c.requires.1 c.nearest_turn-plain.ensures c.write_reversed.ensures c.nearest_turn-over.ensures) _ _
+    c.in-Some-Some.is-0 c.in-Some-Some.is-1

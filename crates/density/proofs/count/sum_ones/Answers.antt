@@ -1,28 +1,21 @@
 -- `density::count::sum_ones` meets its contract.
-use mathlib.Core.Path.{ap, refl, ◌∙◌}
+use mathlib.Core.Path.{sym, ◌∙◌, ◌≡◌}
 use Prim.Native.Nat.{◌<◌}
 use native.Mathlib.Omega.{arith}
-use lib.ListN.{get_or}
-use lib.Seq.{take_all}
-use Rattle.density.proofs.Counts.{sum-take}
-use Rattle.words.specs.Symbols.{sum}
+use borrow.Author.Rules.{rules}
+use Rattle.std.specs.List.{sum}
+use Rattle.density.proofs.Counts.{sum_std}
+use Rattle.density.proofs.Binary.{binary_sum, within_binary}
 use Rattle.density.proofs.count.sum_ones.Goals as goal
 
-pub loop-i-init : goal.loop-i-init
-unfolding sum
-loop-i-init c = (omega arith, refl, omega arith)
-
-pub overflow_add-ones : goal.overflow_add-ones
-overflow_add-ones c =
-    omega (arith, c.requires.1 c.loop-i.i (omega arith))
-
-pub loop-i-preserved : goal.loop-i-preserved
-loop-i-preserved c =
-    let a = c.args.row.now in
-    let i = c.loop-i.i in
-    let small : get_or a i 0 < 2 = c.requires.1 i (omega arith) in
-    (omega arith, omega (arith, sum-take a i (omega arith)), omega arith)
+pub sum-ones-requires-clause-fits : goal.sum-ones-requires-clause-fits
+sum-ones-requires-clause-fits c =
+    let w = c.args.row.now in
+    let few : sum w < 256 = omega (arith, sum_std w, binary_sum (within_binary w c.requires.1), c.requires.0) in
+    search (rules, few)
 
 pub returns : goal.returns
 returns c =
-    (c.loop-i.invariant.1 ∙ ap sum (take_all c.loop-i.i c.args.row.now (omega arith)), omega arith)
+    let w = c.args.row.now in
+    let s : c.from.result ≡ sum w = search rules in
+    (s ∙ sym (sum_std w), omega (arith, s, sum_std w, binary_sum (within_binary w c.requires.1)))

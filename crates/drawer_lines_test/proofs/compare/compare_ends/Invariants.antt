@@ -1,5 +1,5 @@
--- `drawer_lines_test::compare::compare_ends` is safe and ends: it counts at most what was compared.
-use Prim.Native.Nat.{◌+◌, ◌≤◌}
+-- `drawer_lines_test::compare::compare_ends` counts at most what was compared.
+use Rattle.std.proofs.Common.{◌+◌, ◌≤◌}
 use Rattle.drawer_lines_test.proofs.compare.compare_ends.Given as goal
 
 abbrev pub invariant-loop-n : goal.invariant-loop-n

@@ -4,6 +4,3 @@ use Rattle.lyndon_below.proofs.bound.highest_below.Given as goal
 
 abbrev pub invariant-loop-p : goal.invariant-loop-p
 invariant-loop-p l = Search l.v l.row l.p
-
-abbrev pub decreases-loop-p : goal.decreases-loop-p
-decreases-loop-p l = l.p

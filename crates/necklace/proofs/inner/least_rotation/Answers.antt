@@ -13,13 +13,13 @@ pub loop-i-init : goal.loop-i-init
 loop-i-init c = (refl, refl, refl, tails c.rotations.invariant.1 c.rotations-test.true)
 
 -- the part is higher, or lower, or equal
-pub rotations-preserved-in-Higher : goal.rotations-preserved-in-Higher
-rotations-preserved-in-Higher c =
-    (refl, by_higher c.loop-i.invariant.3 _ c.compare-compared.ensures.order c.in-Higher.is)
+pub rotations-preserved-in-Greater : goal.rotations-preserved-in-Greater
+rotations-preserved-in-Greater c =
+    (refl, by_higher c.loop-i.invariant.3 _ c.compare-compared.ensures.order c.in-Greater.is)
 
 pub rotations-preserved : goal.rotations-preserved
 rotations-preserved c =
-    (refl, by_lower c.loop-i.invariant.3 _ c.compare-compared.ensures.order c.in-Lower.is)
+    (refl, by_lower c.loop-i.invariant.3 _ c.compare-compared.ensures.order c.in-Less.is)
 
 pub loop-i-preserved-then-i-n-2 : goal.loop-i-preserved-then-i-n-2
 loop-i-preserved-then-i-n-2 c =

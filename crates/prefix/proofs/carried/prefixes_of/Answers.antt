@@ -150,8 +150,3 @@ loop-i-preserved c =
       | then-a-i w ↦ rw (w.j-is, w.p-is) (on_same c.loop-i.invariant (omega arith) c.requires w.if-a-i.true)
       | else-a-i+else-a-i-2 w ↦ rw (w.j-is, w.p-is) (on_higher c.loop-i.invariant (omega arith) c.requires (omega arith))
     ]
-
-pub returns : goal.returns
-returns c =
-    let v = c.loop-i.invariant in
-    record { each = λ m h k. v.each m h (omega arith) k; within = v.within }

@@ -1,11 +1,9 @@
 -- `printing::lines::put_line` meets its contract.
-use mathlib.Core.Bool.{true}
 use mathlib.Core.Path.{ap, refl, ◌≡◌}
 use native.Mathlib.Omega.{arith}
 use Rattle.printing.specs.InnerNextLine.{next_at, next_of}
 use Rattle.printing.specs.declared.Due.{Due}
 use Rattle.printing.specs.declared.Due.TheVariants.{Done, Header, Refused, Rings}
-use Rattle.printing.specs.declared.Filled.{Filled}
 use Rattle.printing.specs.declared.Printing.{Printing}
 use Rattle.printing.proofs.lines.put_line.Goals as goal
 
@@ -13,10 +11,6 @@ use Rattle.printing.proofs.lines.put_line.Goals as goal
 next_so : (s : Printing) (due : Due) → s.due ≡ due → next_of s ≡ next_at due s.number s.walk
 unfolding next_of
 next_so s due e = ap (λ t. next_at t s.number s.walk) e
-
--- a printing that is done stays as it is
-done_so : (s : Printing) → s.due ≡ Done → ◌≡◌ {A = Filled} (record { state = s; used = 0; done = true }) (record { state = record { walk = s.walk; number = s.number; due = Done }; used = 0; done = true })
-done_so s e = ap (λ t. record { state = record { walk = s.walk; number = s.number; due = t }; used = 0; done = true }) e
 
 pub returns-in-Refused : goal.returns-in-Refused
 returns-in-Refused c =
@@ -32,5 +26,4 @@ returns-in-Rings c =
 
 pub returns-in-Done : goal.returns-in-Done
 returns-in-Done c =
-    let e = c.in-Done.is in
-    rw (next_so c.args.state Done e) (record { result = done_so c.args.state e; short = omega arith; front = refl })
+    rw (next_so c.args.state Done c.in-Done.is, c.filled.ensures) (record { result = refl; short = omega arith; front = refl })

@@ -1,22 +1,25 @@
 -- `printing::opening::start_walk` meets its contract.
-use mathlib.Core.Path.{ap, sym, ◌∙◌, ◌≡◌}
+use mathlib.Core.Path.{ap, ◌∙◌, ◌≡◌}
 use lib.ListN.{take}
-use lib.Seq.{length-take-le}
 use Rattle.printing.proofs.Starting.{byte_text, opened_left, refused_left}
 use Rattle.printing.specs.Text.{asked_text}
+use Rattle.printing.proofs.opening.start_walk.Goals.{After-open-opened}
 use Rattle.printing.proofs.opening.start_walk.Goals as goal
 
-pub returns-in-Open : goal.returns-in-Open
-returns-in-Open c =
-    let limit = take c.args.size c.args.symbols.now in
-    let kind_text : asked_text c.args.n c.args.d c.kind_byte.result limit ≡ asked_text c.args.n c.args.d c.args.kind limit = ap (λ j. asked_text c.args.n c.args.d j limit) c.kind_byte.ensures ∙ byte_text c.args.n c.args.d c.args.kind limit in
-    opened_left c.args.n c.args.d c.kind_byte.result limit c.open-opened.result c.open-opened.ensures.answer c.open-opened.ensures.walk c.in-Open.is ∙ kind_text
+-- the kind that was asked, as the byte that holds it
+same_text : (c : After-open-opened) → let a = c.args.asked in let limit = take a.size c.args.symbols.now in
+    asked_text a.stations a.holes c.kind_byte.result limit ≡ asked_text a.stations a.holes a.kind limit
+same_text c =
+    let a = c.args.asked in
+    let limit = take a.size c.args.symbols.now in
+    ap (λ k. asked_text a.stations a.holes k limit) c.kind_byte.ensures ∙ byte_text a.stations a.holes a.kind limit
 
-pub returns-in-Refused : goal.returns-in-Refused
-returns-in-Refused c =
-    let limit = take c.args.size c.args.symbols.now in
-    let kind_text : asked_text c.args.n c.args.d c.kind_byte.result limit ≡ asked_text c.args.n c.args.d c.args.kind limit = ap (λ j. asked_text c.args.n c.args.d j limit) c.kind_byte.ensures ∙ byte_text c.args.n c.args.d c.args.kind limit in
-    c.start_refusal.ensures ∙ refused_left c.args.n c.args.d c.kind_byte.result limit c.open-opened.result c.open-opened.ensures.answer c.open-opened.ensures.walk _ c.in-Refused.is ∙ kind_text
+pub returns-in-Ok : goal.returns-in-Ok
+returns-in-Ok c =
+    let o = c.open-opened in
+    opened_left _ _ _ _ o.result o.ensures.answer o.ensures.walk c.in-Ok.is ∙ same_text (goal.at.returns-in-Ok c).After-open-opened
 
-pub slice_bounds-open-end : goal.slice_bounds-open-end
-slice_bounds-open-end c = sym (length-take-le _ _ c.requires)
+pub returns-in-Err : goal.returns-in-Err
+returns-in-Err c =
+    let o = c.open-opened in
+    c.start_refusal.ensures ∙ refused_left _ _ _ _ o.result o.ensures.answer o.ensures.walk _ c.in-Err.is ∙ same_text (goal.at.returns-in-Err c).After-open-opened

@@ -1,15 +1,11 @@
 -- `text::read::belongs` meets its contract, sort by sort.
-use borrow.Author.Tests.{eq-eqb, le-leb, lt-leb, ne_eqb}
+use borrow.Author.Tests.{eq-eqb, ne_eqb}
 use Rattle.text.specs.Parts.{belongs}
 use Rattle.text.proofs.read.belongs.Goals as goal
 
-pub returns-then-byte-ge48 : goal.returns-then-byte-ge48
+pub returns-in-Digits : goal.returns-in-Digits
 unfolding belongs
-returns-then-byte-ge48 c = rw (c.in-Digits.is, le-leb _ _ c.if-byte-ge48.true)
-
-pub returns-else-byte-ge48 : goal.returns-else-byte-ge48
-unfolding belongs
-returns-else-byte-ge48 c = rw (c.in-Digits.is, lt-leb _ _ c.if-byte-ge48.false)
+returns-in-Digits c = rw c.in-Digits.is c.is_ascii_digit.ensures.value
 
 pub returns-then-byte-ne32 : goal.returns-then-byte-ne32
 unfolding belongs

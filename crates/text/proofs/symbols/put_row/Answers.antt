@@ -44,6 +44,3 @@ returns c =
       paste_next a.out.now a.at (row_field a.row.now) l.out (length a.row.now) space (omega arith) (omega arith) f (row_end a.row.now)
           ∙ paste_all a.out.now a.at (row_field a.row.now) _ (sym n),
     )
-
-pub shape_of-out : goal.shape_of-out
-shape_of-out c = simp length-set c.loop-i.invariant.long

@@ -1,7 +1,7 @@
 -- `text::symbols::put_row` meets its contract: the characters are written as far as i, and then the space.
 use mathlib.Core.List.{List}
 use mathlib.Core.Path.{◌≡◌}
-use Prim.Native.Nat.{ℕ, ◌+◌, ◌-◌, ◌≤◌}
+use Prim.Native.Nat.{ℕ, ◌+◌, ◌≤◌}
 use lib.ListN.{length}
 use lib.Seq.{paste}
 use Rattle.text.specs.Symbols.{row_field}
@@ -15,6 +15,3 @@ pub record Inv (O : List ℕ) (at : ℕ) (row o : List ℕ) (i : ℕ) : Type 0 w
 
 abbrev pub invariant-loop-i : goal.invariant-loop-i
 invariant-loop-i l = Inv l.initial.out l.at l.row l.out l.i
-
-abbrev pub decreases-loop-i : goal.decreases-loop-i
-decreases-loop-i l = length l.row - l.i

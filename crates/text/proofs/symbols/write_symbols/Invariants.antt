@@ -1,7 +1,7 @@
 -- `text::symbols::write_symbols` meets its contract: the symbols are written as far as i.
 use mathlib.Core.List.{List, map}
 use mathlib.Core.Path.{◌≡◌}
-use Prim.Native.Nat.{ℕ, ◌-◌, ◌≤◌}
+use Prim.Native.Nat.{ℕ, ◌≤◌}
 use lib.ListN.{length}
 use Rattle.text.specs.Symbols.{symbol_of}
 use Rattle.words.proofs.Front.{Front}
@@ -14,6 +14,3 @@ pub record Inv (bytes O o : List ℕ) (i : ℕ) : Type 0 where
 
 abbrev pub invariant-loop-i : goal.invariant-loop-i
 invariant-loop-i l = Inv l.bytes l.initial.out l.out l.i
-
-abbrev pub decreases-loop-i : goal.decreases-loop-i
-decreases-loop-i l = length l.bytes - l.i

@@ -18,12 +18,3 @@ returns c =
     let n = c.args.n in
     let e = ap length (decimal_one l.rest c.loop-rest-test.false) in
     (omega arith, omega (arith, decimal_short 19 n (omega arith)))
-
-pub loop-rest-init : goal.loop-rest-init
-loop-rest-init c = record { small = omega arith; counted = omega arith }
-
-pub overflow_add-count : goal.overflow_add-count
-overflow_add-count c = omega arith
-
-pub loop-rest-smaller : goal.loop-rest-smaller
-loop-rest-smaller c = omega (arith, div-add-mod' c.loop-rest.rest 10)

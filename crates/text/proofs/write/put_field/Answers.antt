@@ -2,9 +2,8 @@
 use mathlib.Core.Logic.{⊎_elim}
 use mathlib.Core.Path.{ap, refl}
 use Prim.Native.Nat.{ℕ, ◌≤◌}
-use native.Mathlib.Nat.{div-add-mod'}
 use native.Mathlib.Omega.{arith}
-use lib.ListN.{length, length-set}
+use lib.ListN.{length}
 use Rattle.text.proofs.Digits.{decimal-length_more, decimal_one, decimal_short, spelled_more, spelled_part}
 use Rattle.text.specs.Decimals.{decimal, field}
 use Rattle.words.proofs.Below.{le_or}
@@ -29,20 +28,8 @@ returns c =
 pub overflow_sub-from : goal.overflow_sub-from
 overflow_sub-from c = omega (arith, left c.loop-rest.rest)
 
-pub bounds-text-from : goal.bounds-text-from
-bounds-text-from c = omega (arith, left c.loop-rest.rest)
-
-pub loop-rest-smaller : goal.loop-rest-smaller
-loop-rest-smaller c = omega (arith, div-add-mod' c.loop-rest.rest 10)
-
 pub loop-rest-preserved : goal.loop-rest-preserved
 loop-rest-preserved c = spelled_more c.loop-rest.invariant c.loop-rest-test.true
 
 pub overflow_sub-from-2 : goal.overflow_sub-from-2
 overflow_sub-from-2 c = omega (arith, left c.loop-rest.rest)
-
-pub bounds-text-from-2 : goal.bounds-text-from-2
-bounds-text-from-2 c = omega (arith, left c.loop-rest.rest)
-
-pub slice_bounds-put-end : goal.slice_bounds-put-end
-slice_bounds-put-end c = simp length-set (omega (arith, c.loop-rest.invariant.long))

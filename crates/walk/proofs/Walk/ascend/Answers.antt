@@ -5,13 +5,13 @@ use mathlib.Core.Path.{ap, refl, sym, ◌∙◌, ◌≡◌}
 use Prim.Native.Nat.{ℕ, ◌+◌, ◌-◌, ◌<◌, ◌≤◌}
 use native.Mathlib.Nat.{pos_of_ne-zero}
 use native.Mathlib.Omega.{arith}
-use lib.ListN.{get_or, length, length-set, set, take}
-use lib.Seq.{length-take-le, set-set}
+use lib.ListN.{get_or, length, set, take}
+use lib.Seq.{set-set}
 use Rattle.density.specs.Necklaces.{begins}
 use Rattle.prefix.specs.InnerCarried.{Knows}
 use Rattle.prefix.specs.declared.carried.Known.{Known}
 use Rattle.walk.proofs.MoveCases.{bit, good_long, good_symbols, good_up, up_due, up_tried_lem}
-use Rattle.walk.proofs.Resuming.{Comes, comes_at, then_part, then_spent, then_trial}
+use Rattle.walk.proofs.Resuming.{Comes, then_spent, then_trial}
 use Rattle.walk.proofs.Tried.{asked, tried_front, tried_last, tried_length}
 use Rattle.refusal.specs.Verdicts.{most_stations}
 use Rattle.walk.specs.Moves.{moved}
@@ -21,7 +21,7 @@ use Rattle.words.proofs.Alphabet.{within_set, within_take}
 use Rattle.words.specs.Symbols.{Within}
 use Rattle.walk.proofs.Walk.ascend.Invariants.{Inv}
 use Rattle.walk.proofs.Walk.ascend.Goals as goal
-use Rattle.walk.proofs.Walk.ascend.Goals.{else-not-ask_with_one, then-not-ask_with_one}
+use Rattle.walk.proofs.Walk.ascend.Goals.{Joined-not-ask_with_one, else-not-ask_with_one, then-not-ask_with_one}
 
 module _ {w : Walk} {allowed : ℕ} {row : List ℕ} {p left : ℕ} {known : Known} (v : Inv w allowed row p left known) where
   place : (2 ≤ p) × (p ≤ w.n + 1) × (begins w.n w.d (take (p - 1) row) ≡ true)
@@ -87,87 +87,33 @@ module _ {w : Walk} {allowed : ℕ} {row : List ℕ} {p left : ℕ} {known : Kno
   on_turn : (k : Known) → Knows (take p new) k → Inv w allowed new (p + 1) (left - 1) k
   on_turn k e = let back : p + 1 - 1 ≡ p = omega arith in record { comes = t.comes; knows = rw back e }
 
-pub loop-p-init : goal.loop-p-init
-loop-p-init c = record { comes = comes_at c.args.self c.args.allowed (Up _) c.requires.0 c.requires.1; knows = c.requires.2 }
+turn_of : (c : Joined-not-ask_with_one) → Turn c.args.self c.args.allowed c.loop-p.row c.loop-p.p c.loop-p.left c.if-not-ask_with_one.row
+turn_of c =
+    let k = pos_of_ne-zero c.if-left-eq0.false in
+    elim c.if-not-ask_with_one.branch [
+      | then-not-ask_with_one w ↦ turn_on c.loop-p.invariant (omega arith) k false c.ask_with_one.ensures w.if-not-ask_with_one.true (w.row-is ∙ set-set c.loop-p.row (c.loop-p.p - 1) 1 0)
+      | else-not-ask_with_one w ↦ turn_on c.loop-p.invariant (omega arith) k true c.ask_with_one.ensures w.if-not-ask_with_one.false w.row-is
+    ]
 
 pub returns-then-left-eq0 : goal.returns-then-left-eq0
 returns-then-left-eq0 c =
     let v = c.loop-p.invariant in
-    let h = c.loop-p-test.true in
+    let h : c.loop-p.p ≤ c.args.self.n = omega arith in
     then_spent v.comes _ _ c.if-left-eq0.true (up_due c.args.self c.loop-p.row c.loop-p.p (positive v h) h) refl refl refl
-
-pub overflow_sub-i : goal.overflow_sub-i
-overflow_sub-i c = omega (arith, (place c.loop-p.invariant).0)
-
-pub bounds-row-i : goal.bounds-row-i
-bounds-row-i c = let v = c.loop-p.invariant in omega (arith, fits_in v c.loop-p-test.true, positive v c.loop-p-test.true)
-
-pub slice_bounds-row-end : goal.slice_bounds-row-end
-slice_bounds-row-end c = rw length-set (fits_in c.loop-p.invariant c.loop-p-test.true)
-
-pub slice_bounds-ask_with_one-end : goal.slice_bounds-ask_with_one-end
-slice_bounds-ask_with_one-end c =
-    sym (tried_length c.loop-p.row c.loop-p.p 1 (fits_in c.loop-p.invariant c.loop-p-test.true))
 
 pub ask_with_one-requires : goal.ask_with_one-requires
 ask_with_one-requires c =
     let v = c.loop-p.invariant in
-    let q = asks_up v c.loop-p-test.true in
+    let q = asks_up v (omega arith) in
     (few v, v.comes.good.sound.dense, q.0, q.1, within_take c.loop-p.p (set c.loop-p.row (c.loop-p.p - 1) 1) (within_set c.loop-p.row (c.loop-p.p - 1) 1 (good_symbols v.comes.good) (omega arith)), q.2, q.3, q.4)
-
-pub slice_bounds-row-end-in-loop-p : goal.slice_bounds-row-end-in-loop-p
-slice_bounds-row-end-in-loop-p c =
-    let turn : Turn c.args.self c.args.allowed c.loop-p.row c.loop-p.p c.loop-p.left c.if-not-ask_with_one.row =
-    let k = pos_of_ne-zero c.if-left-eq0.false in
-    elim c.if-not-ask_with_one.branch [
-      | then-not-ask_with_one w ↦ turn_on c.loop-p.invariant c.loop-p-test.true k false c.ask_with_one.ensures w.if-not-ask_with_one.true (w.row-is ∙ set-set c.loop-p.row (c.loop-p.p - 1) 1 0)
-      | else-not-ask_with_one w ↦ turn_on c.loop-p.invariant c.loop-p-test.true k true c.ask_with_one.ensures w.if-not-ask_with_one.false w.row-is
-    ] in
-    omega (arith, good_long turn.comes.good, few c.loop-p.invariant)
-
-pub slice_bounds-longer-end : goal.slice_bounds-longer-end
-slice_bounds-longer-end c =
-    let turn : Turn c.args.self c.args.allowed c.loop-p.row c.loop-p.p c.loop-p.left c.if-not-ask_with_one.row =
-    let k = pos_of_ne-zero c.if-left-eq0.false in
-    elim c.if-not-ask_with_one.branch [
-      | then-not-ask_with_one w ↦ turn_on c.loop-p.invariant c.loop-p-test.true k false c.ask_with_one.ensures w.if-not-ask_with_one.true (w.row-is ∙ set-set c.loop-p.row (c.loop-p.p - 1) 1 0)
-      | else-not-ask_with_one w ↦ turn_on c.loop-p.invariant c.loop-p-test.true k true c.ask_with_one.ensures w.if-not-ask_with_one.false w.row-is
-    ] in
-    sym (turn_length c.loop-p.invariant c.loop-p-test.true turn)
 
 pub longer-known-requires : goal.longer-known-requires
 longer-known-requires c =
-    let turn : Turn c.args.self c.args.allowed c.loop-p.row c.loop-p.p c.loop-p.left c.if-not-ask_with_one.row =
-    let k = pos_of_ne-zero c.if-left-eq0.false in
-    elim c.if-not-ask_with_one.branch [
-      | then-not-ask_with_one w ↦ turn_on c.loop-p.invariant c.loop-p-test.true k false c.ask_with_one.ensures w.if-not-ask_with_one.true (w.row-is ∙ set-set c.loop-p.row (c.loop-p.p - 1) 1 0)
-      | else-not-ask_with_one w ↦ turn_on c.loop-p.invariant c.loop-p-test.true k true c.ask_with_one.ensures w.if-not-ask_with_one.false w.row-is
-    ] in
-    asks_more c.loop-p.invariant c.loop-p-test.true turn
+    let turn = turn_of (goal.at.longer-known-requires c).Joined-not-ask_with_one in
+    asks_more c.loop-p.invariant (omega arith) turn
 
 pub loop-p-preserved : goal.loop-p-preserved
 loop-p-preserved c =
-    let turn : Turn c.args.self c.args.allowed c.loop-p.row c.loop-p.p c.loop-p.left c.if-not-ask_with_one.row =
-    let k = pos_of_ne-zero c.if-left-eq0.false in
-    elim c.if-not-ask_with_one.branch [
-      | then-not-ask_with_one w ↦ turn_on c.loop-p.invariant c.loop-p-test.true k false c.ask_with_one.ensures w.if-not-ask_with_one.true (w.row-is ∙ set-set c.loop-p.row (c.loop-p.p - 1) 1 0)
-      | else-not-ask_with_one w ↦ turn_on c.loop-p.invariant c.loop-p-test.true k true c.ask_with_one.ensures w.if-not-ask_with_one.false w.row-is
-    ] in
-    on_turn c.loop-p.invariant c.loop-p-test.true turn c.longer-known.result
+    let turn = turn_of (goal.at.loop-p-preserved c).Joined-not-ask_with_one in
+    on_turn c.loop-p.invariant (omega arith) turn c.longer-known.result
     c.longer-known.ensures
-
-pub slice_bounds-row-end-2 : goal.slice_bounds-row-end-2
-slice_bounds-row-end-2 c = let v = c.loop-p.invariant in omega (arith, long v, few v)
-
-pub slice_bounds-found-end : goal.slice_bounds-found-end
-slice_bounds-found-end c = let v = c.loop-p.invariant in sym (length-take-le _ _ (omega (arith, long v, few v)))
-
-pub found-requires : goal.found-requires
-found-requires c =
-    let at_end : c.loop-p.p ≡ c.args.self.n + 1 = let v = c.loop-p.invariant in omega (arith, (place v).1, c.loop-p-test.false) in
-    let e = at_end in
-    let back : c.loop-p.p - 1 ≡ c.args.self.n = omega (arith, e) in
-    (ap Up e, c.loop-p.invariant.comes.good, refl, rw back at c.loop-p.invariant.knows)
-
-pub returns : goal.returns
-returns c = then_part c.loop-p.invariant.comes _ c.found.ensures

@@ -1,6 +1,6 @@
 -- `walk::Walk::ascend` meets its contract: each turn of the loop is a trial on the way of the step.
 use mathlib.Core.List.{List}
-use Prim.Native.Nat.{ℕ, ◌+◌, ◌-◌}
+use Prim.Native.Nat.{ℕ, ◌-◌}
 use lib.ListN.{take}
 use Rattle.prefix.specs.InnerCarried.{Knows}
 use Rattle.prefix.specs.declared.carried.Known.{Known}
@@ -16,6 +16,3 @@ pub record Inv (w : Walk) (allowed : ℕ) (row : List ℕ) (p left : ℕ) (known
 
 abbrev pub invariant-loop-p : goal.invariant-loop-p
 invariant-loop-p l = Inv l.self l.allowed l.row l.p l.left l.known
-
-abbrev pub decreases-loop-p : goal.decreases-loop-p
-decreases-loop-p l = l.self.n + 1 - l.p

@@ -5,14 +5,14 @@ use mathlib.Core.Path.{ap, refl, subst, sym, ◌∙◌, ◌≡◌}
 use Prim.Native.Nat.{ℕ, ◌+◌, ◌-◌, ◌<◌, ◌≤◌}
 use native.Mathlib.Nat.{pos_of_ne-zero}
 use native.Mathlib.Omega.{arith}
-use lib.ListN.{get_or, length, length-set, set, take}
+use lib.ListN.{get_or, length, set, take}
 use lib.Seq.{length-take-le, take-take}
 use Rattle.density.specs.Necklaces.{begins}
 use Rattle.prefix.proofs.CarriedLaws.{knows_fewer}
 use Rattle.prefix.specs.InnerCarried.{Knows, KnowsPrefixes}
 use Rattle.prefix.specs.declared.carried.Known.{Known}
 use Rattle.walk.proofs.MoveCases.{down_due, down_free, down_no, down_yes, good_down, good_long, good_symbols}
-use Rattle.walk.proofs.Resuming.{Comes, comes_at, then_free, then_part, then_spent, then_trial}
+use Rattle.walk.proofs.Resuming.{Comes, then_free, then_part, then_spent, then_trial}
 use Rattle.walk.proofs.Tried.{asked, put_back, tried_front, tried_length}
 use Rattle.refusal.specs.Verdicts.{most_stations}
 use Rattle.walk.specs.Moves.{moved}
@@ -22,7 +22,7 @@ use Rattle.words.proofs.Alphabet.{within_set, within_take}
 use Rattle.words.specs.Symbols.{Within}
 use Rattle.walk.proofs.Walk.descend.Invariants.{Inv}
 use Rattle.walk.proofs.Walk.descend.Goals as goal
-use Rattle.walk.proofs.Walk.descend.Goals.{else-row-q-ne0, then-row-q-ne0+else-left-eq0+else-ask}
+use Rattle.walk.proofs.Walk.descend.Goals.{Joined-row-q-ne0, Then-ask, else-row-q-ne0, then-row-q-ne0+else-left-eq0+else-ask}
 
 -- the row that a turn leaves, and where the step has come
 record Turn (w : Walk) (allowed : ℕ) (row : List ℕ) (p : ℕ) (new : List ℕ) (left : ℕ) : Type 0 where
@@ -88,111 +88,62 @@ module _ {w : Walk} {allowed : ℕ} {prefixes row : List ℕ} {p left : ℕ} {kn
         knows = subst (λ a. Knows a k) shorter e;
       }
 
-pub loop-p-init : goal.loop-p-init
-loop-p-init c = record { comes = comes_at c.args.self c.args.allowed (Down c.args.from) c.requires.0 c.requires.1; table = c.requires.2; knows = c.requires.3 }
+-- the place of the symbol with index p - 1
+place_back : (p : ℕ) → 0 < p → p - 1 + 1 ≡ p
+place_back p h = omega arith
 
-pub bounds-row-q : goal.bounds-row-q
-bounds-row-q c = let v = c.loop-p.invariant in omega (arith, inside v, few v, c.loop-p-test.true)
+-- no: the row is as it was
+turn : (c : Joined-row-q-ne0) → Turn c.args.self c.args.allowed c.loop-q.row c.loop-q.q c.if-row-q-ne0.row c.if-row-q-ne0.left
+turn c =
+    let v = c.loop-q.invariant in
+    let h : 0 < c.loop-q.q = omega arith in
+    elim c.if-row-q-ne0.branch [
+      | then-row-q-ne0+else-left-eq0+else-ask w ↦
+          let asked = rw (place_back c.loop-q.q h) at w.ask.ensures in
+          rw (w.row-is, w.left-is) (on_no v h w.if-row-q-ne0.true (pos_of_ne-zero w.if-left-eq0.false) (answer_is v h _ false asked w.if-ask.false))
+      | else-row-q-ne0 w ↦ rw (w.row-is, w.left-is) (on_free v h w.if-row-q-ne0.false)
+    ]
+
+-- yes: the walk goes up
+came : (c : Then-ask) → Comes c.args.self c.args.allowed (moved c.args.self (set c.loop-q.row (c.loop-q.q - 1) 0) (Up (c.loop-q.q - 1 + 1 + 1))) (c.loop-q.left - 1)
+came c =
+    let v = c.loop-q.invariant in
+    let h : 0 < c.loop-q.q = omega arith in
+    let back = place_back c.loop-q.q h in
+    let asked = rw back at c.ask.ensures in
+    rw back (on_yes v h c.if-row-q-ne0.true (pos_of_ne-zero c.if-left-eq0.false) (answer_is v h _ true asked c.if-ask.true))
 
 pub returns-then-left-eq0 : goal.returns-then-left-eq0
 returns-then-left-eq0 c =
-    let v = c.loop-p.invariant in
-    let h = c.loop-p-test.true in
-    then_spent v.comes _ _ c.if-left-eq0.true (down_due c.args.self c.loop-p.row c.loop-p.p h (one v h c.if-row-q-ne0.true)) refl refl refl
-
-pub bounds-row-q-then-row-q-ne0 : goal.bounds-row-q-then-row-q-ne0
-bounds-row-q-then-row-q-ne0 c = let v = c.loop-p.invariant in omega (arith, inside v, few v, c.loop-p-test.true)
-
-pub slice_bounds-row-end : goal.slice_bounds-row-end
-slice_bounds-row-end c = rw length-set (fits_in c.loop-p.invariant)
-
-pub slice_bounds-longer-end : goal.slice_bounds-longer-end
-slice_bounds-longer-end c = sym (tried_length c.loop-p.row c.loop-p.p 0 (fits_in c.loop-p.invariant))
+    let v = c.loop-q.invariant in
+    let h : 0 < c.loop-q.q = omega arith in
+    rw (place_back c.loop-q.q h) (then_spent v.comes _ _ c.if-left-eq0.true (down_due c.args.self c.loop-q.row c.loop-q.q h (one v h c.if-row-q-ne0.true)) refl refl refl)
 
 pub longer-tried-requires : goal.longer-tried-requires
-longer-tried-requires c = asks_longer c.loop-p.invariant c.loop-p-test.true
+longer-tried-requires c =
+    let h : 0 < c.loop-q.q = omega arith in
+    rw (place_back c.loop-q.q h) (asks_longer c.loop-q.invariant h)
 
 pub ask-requires : goal.ask-requires
 ask-requires c =
-    let v = c.loop-p.invariant in
-    let h = c.loop-p-test.true in
-    (v.comes.good.sound.some, few v, v.comes.good.sound.dense, inside v, tried_symbols v h, c.longer-tried.ensures)
-
-pub overflow_add-walk : goal.overflow_add-walk
-overflow_add-walk c = let v = c.loop-p.invariant in omega (arith, inside v, few v)
-
-pub overflow_add-p : goal.overflow_add-p
-overflow_add-p c = let v = c.loop-p.invariant in omega (arith, inside v, few v)
+    let v = c.loop-q.invariant in
+    let h : 0 < c.loop-q.q = omega arith in
+    (v.comes.good.sound.some, few v, v.comes.good.sound.dense, omega (arith, inside v), tried_symbols v h, c.longer-tried.ensures)
 
 pub ascend-requires : goal.ascend-requires
 ascend-requires c =
-    let back : c.loop-p.p + 1 - 1 ≡ c.loop-p.p = omega arith in
-    let came : Comes c.args.self c.args.allowed (moved c.args.self (set c.loop-p.row (c.loop-p.p - 1) 0) (Up (c.loop-p.p + 1))) (c.loop-p.left - 1) =
-    let v = c.loop-p.invariant in
-    let h = c.loop-p-test.true in
-    on_yes v h c.if-row-q-ne0.true (pos_of_ne-zero c.if-left-eq0.false) (answer_is v h _ true c.ask.ensures c.if-ask.true) in
-    (refl, came.good, rw back c.longer-tried.ensures)
+    let p = c.loop-q.q - 1 + 1 in
+    let back : p + 1 - 1 ≡ p = omega arith in
+    (refl, (came (goal.at.ascend-requires c).Then-ask).good, rw back c.longer-tried.ensures)
 
 pub returns-then-ask : goal.returns-then-ask
-returns-then-ask c =
-    let came : Comes c.args.self c.args.allowed (moved c.args.self (set c.loop-p.row (c.loop-p.p - 1) 0) (Up (c.loop-p.p + 1))) (c.loop-p.left - 1) = let v = c.loop-p.invariant in
-    let h = c.loop-p-test.true in
-    on_yes v h c.if-row-q-ne0.true (pos_of_ne-zero c.if-left-eq0.false) (answer_is v h _ true c.ask.ensures c.if-ask.true) in
-    then_part came _ c.ascend.ensures
-
-pub bounds-row-q-then-row-q-ne0-2 : goal.bounds-row-q-then-row-q-ne0-2
-bounds-row-q-then-row-q-ne0-2 c = let v = c.loop-p.invariant in omega (arith, inside v, few v, c.loop-p-test.true)
-
-pub slice_bounds-row-end-in-loop-p : goal.slice_bounds-row-end-in-loop-p
-slice_bounds-row-end-in-loop-p c =
-    let turn : Turn c.args.self c.args.allowed c.loop-p.row c.loop-p.p c.if-row-q-ne0.row c.if-row-q-ne0.left = let v = c.loop-p.invariant in
-    let h = c.loop-p-test.true in
-    elim c.if-row-q-ne0.branch [
-      | then-row-q-ne0+else-left-eq0+else-ask w ↦ rw (w.row-is, w.left-is) (on_no v h w.if-row-q-ne0.true (pos_of_ne-zero w.if-left-eq0.false) (answer_is v h _ false w.ask.ensures w.if-ask.false))
-      | else-row-q-ne0 w ↦ rw (w.row-is, w.left-is) (on_free v h w.if-row-q-ne0.false)
-    ] in
-    omega (arith, good_long turn.comes.good, fits_in c.loop-p.invariant, long c.loop-p.invariant)
-
-pub slice_bounds-shorter-end : goal.slice_bounds-shorter-end
-slice_bounds-shorter-end c =
-    let turn : Turn c.args.self c.args.allowed c.loop-p.row c.loop-p.p c.if-row-q-ne0.row c.if-row-q-ne0.left = let v = c.loop-p.invariant in
-    let h = c.loop-p-test.true in
-    elim c.if-row-q-ne0.branch [
-      | then-row-q-ne0+else-left-eq0+else-ask w ↦ rw (w.row-is, w.left-is) (on_no v h w.if-row-q-ne0.true (pos_of_ne-zero w.if-left-eq0.false) (answer_is v h _ false w.ask.ensures w.if-ask.false))
-      | else-row-q-ne0 w ↦ rw (w.row-is, w.left-is) (on_free v h w.if-row-q-ne0.false)
-    ] in
-    sym (front_length c.loop-p.invariant c.loop-p-test.true turn)
+returns-then-ask c = then_part (came (goal.at.returns-then-ask c).Then-ask) _ c.ascend.ensures
 
 pub shorter-known-requires : goal.shorter-known-requires
 shorter-known-requires c =
-    let turn : Turn c.args.self c.args.allowed c.loop-p.row c.loop-p.p c.if-row-q-ne0.row c.if-row-q-ne0.left = let v = c.loop-p.invariant in
-    let h = c.loop-p-test.true in
-    elim c.if-row-q-ne0.branch [
-      | then-row-q-ne0+else-left-eq0+else-ask w ↦ rw (w.row-is, w.left-is) (on_no v h w.if-row-q-ne0.true (pos_of_ne-zero w.if-left-eq0.false) (answer_is v h _ false w.ask.ensures w.if-ask.false))
-      | else-row-q-ne0 w ↦ rw (w.row-is, w.left-is) (on_free v h w.if-row-q-ne0.false)
-    ] in
-    asks_shorter c.loop-p.invariant c.loop-p-test.true turn
+    asks_shorter c.loop-q.invariant (omega arith) (turn (goal.at.shorter-known-requires c).Joined-row-q-ne0)
 
-pub loop-p-preserved : goal.loop-p-preserved
-loop-p-preserved c =
-    let turn : Turn c.args.self c.args.allowed c.loop-p.row c.loop-p.p c.if-row-q-ne0.row c.if-row-q-ne0.left = let v = c.loop-p.invariant in
-    let h = c.loop-p-test.true in
-    elim c.if-row-q-ne0.branch [
-      | then-row-q-ne0+else-left-eq0+else-ask w ↦ rw (w.row-is, w.left-is) (on_no v h w.if-row-q-ne0.true (pos_of_ne-zero w.if-left-eq0.false) (answer_is v h _ false w.ask.ensures w.if-ask.false))
-      | else-row-q-ne0 w ↦ rw (w.row-is, w.left-is) (on_free v h w.if-row-q-ne0.false)
-    ] in
-    on_turn c.loop-p.invariant c.loop-p-test.true turn c.shorter-known.result c.shorter-known.ensures
-
-pub none-requires : goal.none-requires
-none-requires c =
-    let at_end : Comes c.args.self c.args.allowed (moved c.args.self c.loop-p.row (Down 0)) c.loop-p.left = let e : c.loop-p.p ≡ 0 = omega (arith, c.loop-p-test.false) in
-    subst (λ t. Comes c.args.self c.args.allowed (moved c.args.self c.loop-p.row (Down t)) c.loop-p.left) e
-    c.loop-p.invariant.comes in
-    (refl, at_end.good)
-
-pub returns : goal.returns
-returns c =
-    let at_end : Comes c.args.self c.args.allowed (moved c.args.self c.loop-p.row (Down 0)) c.loop-p.left = let e : c.loop-p.p ≡ 0 = omega (arith, c.loop-p-test.false) in
-    subst (λ t. Comes c.args.self c.args.allowed (moved c.args.self c.loop-p.row (Down t)) c.loop-p.left) e
-    c.loop-p.invariant.comes in
-    then_part at_end _ c.none.ensures
+pub loop-q-preserved : goal.loop-q-preserved
+loop-q-preserved c =
+    let t = turn (goal.at.loop-q-preserved c).Joined-row-q-ne0 in
+    on_turn c.loop-q.invariant (omega arith) t c.shorter-known.result c.shorter-known.ensures

@@ -15,8 +15,5 @@ pub record Inv (w : Walk) (allowed : ℕ) (prefixes row : List ℕ) (p left : �
   pub table : KnowsPrefixes (take (p - 1) row) prefixes
   pub knows : Knows (take (p - 1) row) known
 
-abbrev pub invariant-loop-p : goal.invariant-loop-p
-invariant-loop-p l = Inv l.self l.allowed l.prefixes l.row l.p l.left l.known
-
-abbrev pub decreases-loop-p : goal.decreases-loop-p
-decreases-loop-p l = l.p
+abbrev pub invariant-loop-q : goal.invariant-loop-q
+invariant-loop-q l = Inv l.self l.allowed l.prefixes l.row l.q l.left l.known

@@ -9,6 +9,7 @@ use Rattle.prefix.specs.InnerCarried.{Knows}
 use Rattle.walk.proofs.MoveCases.{from_found, good_found, good_long}
 use Rattle.walk.proofs.Resuming.{comes_here, then_answer, then_struck}
 use Rattle.walk.specs.Moves.{row_of}
+use Rattle.std.specs.Prelude.{Ok}
 use Rattle.walk.specs.declared.Answer.TheVariants.{Ring}
 use Rattle.words.proofs.Rotations.{→is_necklace}
 use Rattle.words.specs.Rotation.{is_necklace}
@@ -29,7 +30,7 @@ pub returns-then-is_of_kind : goal.returns-then-is_of_kind
 returns-then-is_of_kind c =
     let of_kind_lem : c.is_of_kind.result ≡ of_kind c.args.self.kind (row_of c.args.self) = c.is_of_kind.ensures ∙ ap (of_kind c.args.self.kind) c.requires.2 in
     let w = c.args.self in
-    then_answer (comes_here w c.args.left c.requires.1) Ring _ refl refl (from_found w c.requires.0 true (sym of_kind_lem ∙ c.if-is_of_kind.true))
+    then_answer (comes_here w c.args.left c.requires.1) (Ok Ring) _ refl refl (from_found w c.requires.0 true (sym of_kind_lem ∙ c.if-is_of_kind.true))
 
 pub returns : goal.returns
 returns c =

@@ -1,12 +1,10 @@
 -- `walk::Walk::from_limit` meets its contract.
 use mathlib.Core.Bool.{false, true}
-use mathlib.Core.Path.{ap, refl, subst, sym, ◌∙◌, ◌≡◌}
-use Prim.Native.Nat.{suc, ◌+◌, ◌-◌, ◌≤◌}
+use mathlib.Core.Path.{ap, refl, sym, ◌∙◌, ◌≡◌}
+use Prim.Native.Nat.{suc, ◌+◌, ◌≤◌}
 use native.Mathlib.Omega.{arith}
-use lib.ListN.{length, take}
-use lib.Seq.{length-take-le, take-take}
-use Rattle.prefix.proofs.CarriedLaws.{knows_fewer}
-use Rattle.prefix.specs.InnerCarried.{Knows, KnowsPrefixes}
+use lib.ListN.{length}
+use lib.Seq.{length-take-le}
 use Rattle.walk.proofs.MoveCases.{from_limit, good_long, good_symbols}
 use Rattle.walk.proofs.Resuming.{Comes, comes_here, then_free, then_part}
 use Rattle.walk.specs.Moves.{free, moved, row_of}
@@ -44,23 +42,8 @@ module _ {w : Walk} (at : w.at ≡ Limit) (g : Good rules w) (left : ℕ) {r : B
   below : r ≡ false → Comes w left (moved w w.row (Down w.n)) left
   below t = then_free (comes_here w left g) w.row (Down w.n) (from_limit w at false (sym e ∙ t))
 
-pub slice_bounds-row-end : goal.slice_bounds-row-end
-slice_bounds-row-end c = inside c.requires.1
-
-pub slice_bounds-is_necklace_of-end : goal.slice_bounds-is_necklace_of-end
-slice_bounds-is_necklace_of-end c = sym (whole c.requires.1)
-
 pub is_necklace_of-requires : goal.is_necklace_of-requires
 is_necklace_of-requires c = (omega (arith, whole c.requires.1, c.requires.1.sound.some), symbols c.requires.1, c.requires.3)
-
-pub overflow_add-beyond : goal.overflow_add-beyond
-overflow_add-beyond c = omega (arith, c.requires.1.sound.most)
-
-pub slice_bounds-row-end-then-is_necklace_of : goal.slice_bounds-row-end-then-is_necklace_of
-slice_bounds-row-end-then-is_necklace_of c = inside c.requires.1
-
-pub slice_bounds-found-end : goal.slice_bounds-found-end
-slice_bounds-found-end c = sym (whole c.requires.1)
 
 pub found-requires : goal.found-requires
 found-requires c = (refl, (found c.requires.0 c.requires.1 c.args.left c.is_necklace_of.ensures c.if-is_necklace_of.true).good, refl, c.requires.3)
@@ -68,25 +51,8 @@ found-requires c = (refl, (found c.requires.0 c.requires.1 c.args.left c.is_neck
 pub returns-then-is_necklace_of : goal.returns-then-is_necklace_of
 returns-then-is_necklace_of c = then_part (found c.requires.0 c.requires.1 c.args.left c.is_necklace_of.ensures c.if-is_necklace_of.true) _ c.found.ensures
 
-pub slice_bounds-row-end-2 : goal.slice_bounds-row-end-2
-slice_bounds-row-end-2 c = inside c.requires.1
-
-pub slice_bounds-shorter-end : goal.slice_bounds-shorter-end
-slice_bounds-shorter-end c = sym (whole c.requires.1)
-
 pub shorter-before-requires : goal.shorter-before-requires
 shorter-before-requires c = (omega (arith, whole c.requires.1, c.requires.1.sound.most), symbols c.requires.1, c.requires.3, c.requires.2)
-
-pub descend-requires : goal.descend-requires
-descend-requires c =
-    let w = c.args.self in
-    let a = row_of w in
-    let front : take (length a - 1) a ≡ take (w.n - 1) w.row = rw (whole c.requires.1) (take-take (w.n - 1) w.n w.row (omega arith)) in (
-      refl,
-      (below c.requires.0 c.requires.1 c.args.left c.is_necklace_of.ensures c.if-is_necklace_of.false).good,
-      subst (λ a. KnowsPrefixes a c.args.prefixes.now) front (knows_fewer a c.args.prefixes.now (length a - 1) (omega arith) c.requires.2),
-      subst (λ a. Knows a c.shorter-before.result) front c.shorter-before.ensures,
-    )
 
 pub returns : goal.returns
 returns c = then_part (below c.requires.0 c.requires.1 c.args.left c.is_necklace_of.ensures c.if-is_necklace_of.false) _ c.descend.ensures

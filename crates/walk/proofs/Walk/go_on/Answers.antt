@@ -12,7 +12,7 @@ use Rattle.walk.proofs.Resuming.{ended_resumes}
 use Rattle.walk.specs.InnerCourse.{Good, GoodAt, before}
 use Rattle.walk.specs.Moves.{rules}
 use Rattle.walk.specs.declared.Standing.{Standing}
-use Rattle.walk.specs.declared.Standing.TheVariants.{Down, Ended, Given, Limit, Up}
+use Rattle.walk.specs.declared.Standing.TheVariants.{Down, Ended, Up}
 use Rattle.refusal.specs.Verdicts.{most_stations}
 use Rattle.words.proofs.Booleans.{clash}
 use mathlib.Core.List.{List}
@@ -43,11 +43,6 @@ module _ {w : Walk} {prefixes : List ℕ} {known : Known} (i : Informed w prefix
       let size : length (take w.n w.row) ≡ w.n = length-take-le w.n w.row (omega arith) in
       subst (λ a. KnowsPrefixes a prefixes) (take-take (p - 1) w.n w.row (omega arith)) (knows_fewer (take w.n w.row) prefixes (p - 1) (omega (arith, size)) i.table)
 
-pub from_limit-requires : goal.from_limit-requires
-from_limit-requires c =
-    let e = c.in-Limit.is in
-    (e, good c.requires Limit e (λ z. clash (cc)), c.requires.table, known_at c.requires Limit e)
-
 pub descend-requires : goal.descend-requires
 descend-requires c =
     let e = c.in-Down.is in
@@ -63,11 +58,6 @@ ascend-requires c =
     let e = c.in-Up.is in
     let g = good c.requires (Up _) e (λ z. clash (cc)) in
     (e, g, known_before c.requires _ (omega (arith, (good_up g _ e).1)) (known_at c.requires (Up _) e))
-
-pub from_given-requires : goal.from_given-requires
-from_given-requires c =
-    let e = c.in-Given.is in
-    (e, good c.requires Given e (λ z. clash (cc)), c.requires.table, known_at c.requires Given e)
 
 pub returns-in-Ended : goal.returns-in-Ended
 returns-in-Ended c = ended_resumes c.args.self c.args.left _ c.in-Ended.is refl refl refl

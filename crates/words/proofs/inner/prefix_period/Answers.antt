@@ -1,6 +1,7 @@
 -- `words::inner::prefix_period` meets its contract. The invariant: the pass over all of a is the pass from place i, with period i - j.
-use mathlib.Core.Path.{sym, ◌∙◌}
+use mathlib.Core.Path.{sym, ◌∙◌, ◌≡◌}
 use Prim.Native.Nat.{◌-◌}
+use lib.ListN.{length}
 use native.Mathlib.Omega.{arith}
 use Rattle.words.proofs.ScanSteps.{over_first, pass_higher, pass_lower, pass_same, scan_end, scan_start}
 use Rattle.words.proofs.inner.prefix_period.Goals as goal
@@ -10,8 +11,8 @@ pub loop-i-init : goal.loop-i-init
 loop-i-init c =
     let a = c.args.a.now in
     elim c.if-z-a.branch [
-      | then-z-a w ↦ (omega arith, omega arith, rw w.i-is (over_first a c.args.z c.requires.1 w.if-z-a.true))
-      | else-z-a w ↦ (omega arith, omega arith, rw w.i-is (scan_start a (omega arith)))
+      | then-z-a w ↦ (omega arith, omega arith, rw w.start-is (over_first a c.args.z c.requires.1 w.if-z-a.true))
+      | else-z-a w ↦ (omega arith, omega arith, rw w.start-is (scan_start a (omega arith)))
     ]
 
 pub returns-then-a-i-2 : goal.returns-then-a-i-2
@@ -30,4 +31,5 @@ loop-i-preserved c =
 
 pub returns : goal.returns
 returns c =
-    (scan_end c.args.a.now (c.loop-i.i - c.loop-i.j) c.loop-i.i (omega arith) (omega arith) ∙ sym c.loop-i.invariant.2, omega arith)
+    let end : c.loop-i.i ≡ length c.args.a.now = omega arith in
+    (scan_end c.args.a.now (length c.args.a.now - c.loop-i.j) (length c.args.a.now) (omega arith) (omega arith) ∙ sym (rw end at c.loop-i.invariant.2), omega arith)

@@ -7,6 +7,3 @@ use Rattle.words.proofs.inner.prefix_period.Given as goal
 
 abbrev pub invariant-loop-i : goal.invariant-loop-i
 invariant-loop-i l = (l.j < l.i) × (l.i ≤ length l.a) × (scan l.a ≡ scan_from (take l.i l.a) (l.i - l.j) (drop l.i l.a))
-
-abbrev pub decreases-loop-i : goal.decreases-loop-i
-decreases-loop-i l = length l.a - l.i

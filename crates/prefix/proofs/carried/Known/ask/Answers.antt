@@ -23,12 +23,6 @@ returns-then-t-eq0 c =
     let a = c.args in
     sym (ap (λ t. begins a.n a.d (take t a.row)) c.if-t-eq0.true ∙ begins_empty a.n a.d c.requires.0 c.requires.2)
 
-pub slice_bounds-ruled_out-end : goal.slice_bounds-ruled_out-end
-slice_bounds-ruled_out-end c =
-    let begun = take c.args.t c.args.row in
-    let begun_length : length begun ≡ c.args.t = let l : length c.args.row ≡ most_stations = search rules in length-take-le c.args.t c.args.row (omega arith) in
-    sym begun_length
-
 pub ruled_out-requires : goal.ruled_out-requires
 ruled_out-requires c =
     let begun = take c.args.t c.args.row in

@@ -18,19 +18,6 @@ use Rattle.words.specs.InnerScan.{Leading, coded, next, scan, ◌▹◌}
 use Rattle.words.specs.Symbols.{Within, sum}
 use Rattle.prefix.proofs.carried.Known.ask_with_one.Goals as goal
 
-pub overflow_sub-i-2 : goal.overflow_sub-i-2
-overflow_sub-i-2 c =
-    let front = take (length c.args.a.now - 1) c.args.a.now in
-    let some : 0 < length c.args.a.now = omega (arith, c.requires.2) in
-    let size : length front ≡ length c.args.a.now - 1 = front_length c.args.a.now some in
-    let short : c.args.self.period ≤ length c.args.a.now - 1 = omega (arith, size, c.requires.6.within) in
-    short
-
-pub bounds-a-i : goal.bounds-a-i
-bounds-a-i c =
-    let some : 0 < length c.args.a.now = omega (arith, c.requires.2) in
-    omega (arith, some)
-
 pub returns-then-a-i-ne0 : goal.returns-then-a-i-ne0
 unfolding next
 returns-then-a-i-ne0 c =

@@ -6,9 +6,6 @@ use Rattle.density.proofs.KindTests.{as_necklace, not_member}
 use Rattle.words.proofs.OnePass.{class_necklace}
 use Rattle.prefix.proofs.carried.Known.is_necklace_of.Goals as goal
 
-pub scanned_period-requires : goal.scanned_period-requires
-scanned_period-requires c = (c.requires.0, c.requires.2.scans c.requires.0)
-
 pub returns-then-self-d : goal.returns-then-self-d
 returns-then-self-d c =
     let w = c.args.a.now in

@@ -7,16 +7,10 @@ use Rattle.prefix.proofs.carried.Known.is_of_kind.Goals as goal
 pub returns-then-kind-eq1 : goal.returns-then-kind-eq1
 returns-then-kind-eq1 c = sym (of_kind_one c.args.kind c.args.a.now c.if-kind-eq1.true)
 
-pub scanned_period-requires : goal.scanned_period-requires
-scanned_period-requires c = (c.requires.0, c.requires.3.scans c.requires.0)
-
 pub returns-then-kind-eq2 : goal.returns-then-kind-eq2
 returns-then-kind-eq2 c =
     let w = c.args.a.now in
     class_lyndon w c.requires.0 _ c.scanned_period.ensures ∙ sym (of_kind_two c.args.kind w c.if-kind-eq2.true)
-
-pub is_bracelet-requires : goal.is_bracelet-requires
-is_bracelet-requires c = (c.requires.0, c.requires.1, c.requires.2)
 
 pub returns-then-kind-eq3 : goal.returns-then-kind-eq3
 returns-then-kind-eq3 c =

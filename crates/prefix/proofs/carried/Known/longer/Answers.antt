@@ -9,15 +9,6 @@ use Rattle.words.proofs.Alphabet.{within_take}
 use Rattle.words.specs.Symbols.{sum}
 use Rattle.prefix.proofs.carried.Known.longer.Goals as goal
 
-pub period_after-period-requires : goal.period_after-period-requires
-period_after-period-requires c =
-    let a = c.args.a.now in
-    let size = front_length a c.requires.0 in
-    (c.requires.0, omega (arith, size, c.requires.3.within), λ h. c.requires.3.scans (omega (arith, size)))
-
-pub overflow_cast-ones : goal.overflow_cast-ones
-overflow_cast-ones c = omega (arith, c.requires.2 (length c.args.a.now - 1) (omega (arith, c.requires.0)))
-
 pub overflow_add-ones : goal.overflow_add-ones
 overflow_add-ones c =
     let a = c.args.a.now in

@@ -1,11 +1,9 @@
 -- `prefix::carried::Known::shorter` meets its contract.
 use mathlib.Core.List.{List}
-use mathlib.Core.Path.{subst, sym}
 use Prim.Native.Nat.{ℕ, ◌-◌, ◌<◌}
 use native.Mathlib.Nat.{pos_of_ne-zero}
 use native.Mathlib.Omega.{arith}
 use lib.ListN.{get_or, length, take}
-use lib.Seq.{take_all}
 use Rattle.density.proofs.Counts.{front-sum}
 use Rattle.prefix.specs.InnerCarried.{Knows, KnowsPrefixes}
 use Rattle.prefix.specs.declared.carried.Known.{Known}
@@ -23,20 +21,6 @@ module _ (a prefixes : List ℕ) (k : Known) (h : 0 < length a) (q : KnowsPrefix
     leads = l;
   }
 
--- no symbols
-pub returns-then-a-eq0 : goal.returns-then-a-eq0
-returns-then-a-eq0 c =
-    let a = c.args.a.now in
-    subst (λ w. Knows w c.args.self) (sym (take_all (length a - 1) a (omega (arith, c.if-a-eq0.true)))) c.requires.2
-
-pub overflow_cast-period : goal.overflow_cast-period
-overflow_cast-period c = omega (arith, c.requires.0, c.requires.3.within (length c.args.a.now - 1))
-
-pub overflow_cast-ones : goal.overflow_cast-ones
-overflow_cast-ones c =
-    let some : 0 < length c.args.a.now = pos_of_ne-zero c.if-a-eq0.false in
-    omega (arith, c.requires.1 (length c.args.a.now - 1) (omega (arith, some)))
-
 pub overflow_sub-ones : goal.overflow_sub-ones
 overflow_sub-ones c =
     let some : 0 < length c.args.a.now = pos_of_ne-zero c.if-a-eq0.false in
@@ -46,10 +30,10 @@ pub returns-then-last-zeros : goal.returns-then-last-zeros
 returns-then-last-zeros c =
     let some : 0 < length c.args.a.now = pos_of_ne-zero c.if-a-eq0.false in
     let a = c.args.a.now in
-    known_front a c.args.prefixes.now c.args.self some c.requires.3 c.requires.2 _ (lead_all a c.args.self.zeros (length a - 1) c.requires.2.leads (omega (arith, some)) c.if-last-zeros.true)
+    rw (c.from-period.ensures, c.from.ensures) (known_front a c.args.prefixes.now c.args.self some c.requires.3 c.requires.2 _ (lead_all a c.args.self.zeros (length a - 1) c.requires.2.leads (omega (arith, some)) c.if-last-zeros.true))
 
 pub returns : goal.returns
 returns c =
     let some : 0 < length c.args.a.now = pos_of_ne-zero c.if-a-eq0.false in
     let a = c.args.a.now in
-    known_front a c.args.prefixes.now c.args.self some c.requires.3 c.requires.2 _ (lead_some a c.args.self.zeros (length a - 1) c.requires.2.leads (omega (arith, some)) c.if-last-zeros.false)
+    rw (c.from-period.ensures, c.from.ensures) (known_front a c.args.prefixes.now c.args.self some c.requires.3 c.requires.2 _ (lead_some a c.args.self.zeros (length a - 1) c.requires.2.leads (omega (arith, some)) c.if-last-zeros.false))

@@ -1,9 +1,0 @@
--- `necklace_test::all_rows::compare_all` is safe and ends.
-use Prim.Native.Nat.{◌-◌, ◌≤◌}
-use Rattle.necklace_test.proofs.all_rows.compare_all.Given as goal
-
-abbrev pub invariant-loop-number : goal.invariant-loop-number
-invariant-loop-number l = (l.number ≤ 2048) × (l.keys ≤ l.number) × (l.classes ≤ l.number) × (l.longer_keys ≤ l.number) × (l.longer_classes ≤ l.number)
-
-abbrev pub decreases-loop-number : goal.decreases-loop-number
-decreases-loop-number l = 2048 - l.number

@@ -1,9 +1,0 @@
--- `prefix_test::compare_all` is safe and ends.
-use Prim.Native.Nat.{◌≤◌, ◌-◌}
-use Rattle.prefix_test.proofs.compare_all.Given as goal
-
-abbrev pub invariant-loop-n : goal.invariant-loop-n
-invariant-loop-n l = l.n ≤ 11
-
-abbrev pub decreases-loop-n : goal.decreases-loop-n
-decreases-loop-n l = 11 - l.n
