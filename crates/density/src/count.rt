@@ -8,7 +8,14 @@ ghost use Rattle.refusal.specs.Verdicts.{most_stations};
 pub fn count_ones(row: &[u8]) -> usize
     ensures { (result ≡ density row.now) × (result ≤ length row.now) }
 {
-    row.iter().filter(|x| **x == 1).count()
+    let mut ones: usize = 0;
+    // by places, so that it runs on vectors: over a chain of filter and count each symbol is a branch
+    for i in 0..row.len() {
+        if row[i] == 1 {
+            ones += 1;
+        }
+    }
+    ones
 }
 
 // The same for a row of zeros and ones, of at most 64. A sum of bytes runs on vectors.

@@ -6,6 +6,15 @@ ghost use Rattle.words.specs.Rotation.{least_index, period, rotation};
 use crate::RowKey;
 use std::cmp::Ordering;
 
+// The symbol at place i of the rotation by j.
+pub fn symbol(row: &[u8], j: usize, i: usize) -> u8
+    requires { (j ≤ length row.now) × (i < length row.now) }
+    ensures { result ≡ get_or (rotation j row.now) i 0 }
+{
+    let tail = row.len() - j;
+    if i < tail { row[j + i] } else { row[i - tail] }
+}
+
 // The least rotation: the rotations in their order against the least so far, which lies at b.
 pub fn least_rotation(row: &[u8]) -> RowKey
     requires { 0 < length row.now }

@@ -84,7 +84,7 @@ pub fn take(walk: Walk, offer: Offer) -> Stepped
     let stepped = walk.step(offer.allowance);
     match stepped.answer {
         Ok(given) => {
-            if offer.offered == given && offer.walk == stepped.walk {
+            if offer.offered == given && walk_records::same_walk(offer.walk, stepped.walk) {
                 return stepped;
             }
             refusing(walk, Refusal::NotOffered)

@@ -21,12 +21,15 @@ use Rattle.words.proofs.Below.{here, ≺_under, ◌≺◌}
 use Rattle.words.specs.InnerScan.{◌▹◌}
 use Rattle.words.specs.Symbols.{ones}
 
--- ---- n ones
+-- ---- a symbol n times
+
+pub filled_given : (x n d : ℕ) → x ≤ 1 → 0 < n → n ≤ last_row → d ≤ n → Given (take n (replicate most_stations x)) d
+filled_given x n d b p h k =
+    let e = take-replicate {X = ℕ} n most_stations x (omega arith) in
+    rw e (record { some = omega (arith, length-replicate {A = ℕ} n x); few = omega (arith, length-replicate {A = ℕ} n x); binary = binary_replicate n x b; dense = omega (arith, length-replicate {A = ℕ} n x) })
 
 pub ones_given : (n d : ℕ) → 0 < n → n ≤ last_row → d ≤ n → Given (take n (replicate most_stations 1)) d
-ones_given n d p h k =
-    let e = take-replicate {X = ℕ} n most_stations 1 (omega arith) in
-    rw e (record { some = omega (arith, length-replicate {A = ℕ} n 1); few = omega (arith, length-replicate {A = ℕ} n 1); binary = binary_replicate n 1 (omega arith); dense = omega (arith, length-replicate {A = ℕ} n 1) })
+ones_given n d = filled_given 1 n d (omega arith)
 
 pub ones-rank : (n d kind r : ℕ) → n ≤ last_row → let w = take {A = ℕ} n (replicate most_stations 1) in r ≡ rank (length w) d kind w → r ≡ rank n d kind (ones n)
 ones-rank n d kind r h e =

@@ -31,6 +31,11 @@ pub counted_kinds : (kind : ℕ) → is_counted kind ≡ true → (1 ≤ kind) �
 unfolding is_counted
 counted_kinds kind e = one_to→ 2 kind e
 
+-- kind 1 is one: the edit total_of_kind_1 cites it
+pub counted_one : is_counted 1 ≡ true
+unfolding is_counted
+counted_one = refl
+
 -- kinds 1 and 2 themselves, and 0 for all others
 pub kept_kind : (kind : ℕ) → kind ≤ 2 → is_kind kind ≡ is_counted kind
 unfolding is_kind is_counted

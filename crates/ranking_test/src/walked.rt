@@ -23,7 +23,12 @@ pub fn compare(drawer: Drawer, allowance: u64) -> Tally {
         let due = total.wrapping_sub(tally.compared as u64);
         match stepped.answer {
             Ok(Answer::Ring) => {
-                let seat = asked::seat_of(drawer, cases::part(&row, 0, n));
+                let stood = Drawer {
+                    n: walk.n,
+                    d: walk.d,
+                    kind: walk.kind,
+                };
+                let seat = asked::seat_of(stood, cases::part(&row, 0, walk.n));
                 tally = tally.with(seat == Ok(due), 0);
             }
             Ok(Answer::None) => return tally.with(due == 0, 0),

@@ -21,9 +21,17 @@ pub fn same_walk(walk: Walk, other: Walk) -> bool {
         && walk_records::standing_place(walk.at) == walk_records::standing_place(other.at)
 }
 
+// A ring 0, none 1: by a match, as `==` is what is compared with.
+fn offered_number(offered: Answer) -> u8 {
+    match offered {
+        Answer::Ring => 0,
+        Answer::None => 1,
+    }
+}
+
 pub fn same_offer(offer: Offer, other: Offer) -> bool {
     same_walk(offer.walk, other.walk)
-        && offer.offered == other.offered
+        && offered_number(offer.offered) == offered_number(other.offered)
         && offer.allowance == other.allowance
 }
 

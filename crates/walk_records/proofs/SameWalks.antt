@@ -1,7 +1,7 @@
 -- The test of two walk records is equality.
-use mathlib.Core.Bool.{Bool, false, true, ◌&&◌}
+use mathlib.Core.Bool.{Bool, false, not, true, ◌&&◌}
 use mathlib.Core.List.{List}
-use mathlib.Core.Path.{ap₂, refl, sym, ◌∙◌, ◌≡◌}
+use mathlib.Core.Path.{ap, ap₂, refl, sym, ◌∙◌, ◌≡◌}
 use Prim.Native.Nat.{suc, zero, ℕ}
 use lib.Dec.{eqb}
 use borrow.Author.Tests.{eq-eqb, eqb-true}
@@ -13,8 +13,10 @@ use Rattle.walk.specs.contracts.WalkPartialEq.TheImpl as WalkEq
 use Rattle.walk.specs.declared.Standing.{Standing}
 use Rattle.walk.specs.declared.Standing.TheVariants.{Down, Ended, Given, Limit, Up}
 use Rattle.walk.specs.declared.Walk.{Walk}
-use Rattle.words.proofs.Booleans.{and→, same_test, →and}
+use Rattle.words.proofs.Booleans.{and→, never, same_test, →and}
+use Rattle.words.proofs.Difference.{no_difference}
 use Rattle.words.proofs.OrderTests.{same→, →same}
+use Rattle.words.specs.Difference.{first_difference}
 use Rattle.words.specs.Order.{same}
 use Rattle.walk_records.specs.Claims.{SameWalk}
 use Rattle.walk_records.specs.SameWalks.{same_standing, same_walk, standing_number, standing_place}
@@ -78,7 +80,13 @@ standing_derived Ended (Up q) = refl
 standing_derived Ended Given = refl
 standing_derived Ended Ended = refl
 
--- ---- rows
+-- ---- rows, by the place where they differ
+
+pub row_same : (a b : List ℕ) (p : ℕ) → p ≡ first_difference a b → eqb p 0 ≡ same a b
+row_same a b p e =
+    same_test (eqb p 0) (same a b)
+    (λ t. →same a b ((no_difference a b).0 (sym e ∙ eqb-true p 0 t)))
+    (λ t. eq-eqb p 0 (e ∙ (no_difference a b).1 (same→ a b t)))
 
 row_self : (a : List ℕ) → same a a ≡ true
 row_self a = →same a a refl
@@ -116,6 +124,37 @@ same_walk_lem a b = (there, λ e. rw e (self b))
         (→and (eq-eqb w.kind w.kind refl)
         (→and (standing_self w.at)
         (→and (row_self w.row) (row_self w.kept)))))
+
+-- ---- the test, field by field
+
+pub not_true : {x : Bool} → not x ≡ true → x ≡ false
+not_true {x = true} e = sym e
+not_true {x = false} e = refl
+
+pub not_false : {x : Bool} → not x ≡ false → x ≡ true
+not_false {x = true} e = refl
+not_false {x = false} e = sym e
+
+module _ (a b : Walk) where
+  abbrev Sized : Type 0
+  Sized = (a.n ≡ b.n) × (a.d ≡ b.d) × (a.kind ≡ b.kind)
+
+  -- of other sizes
+  pub other_sizes : (Sized → ⊥) → same_walk a b ≡ false
+  other_sizes f = never (same_walk a b) (λ q. let e = (same_walk_lem a b).0 q in f (rw e (refl, refl, refl)))
+
+  module _ {s : Bool} (h : Sized) (e : s ≡ StandingEq.ghosts.eq a.at b.at) where
+    sized : same_walk a b ≡ s && (same a.row b.row && same a.kept b.kept)
+    unfolding same_walk
+    sized = rw (eq-eqb _ _ h.0, eq-eqb _ _ h.1, eq-eqb _ _ h.2, e, standing_derived a.at b.at) refl
+
+    -- of other standings
+    pub other_standings : s ≡ false → same_walk a b ≡ false
+    other_standings f = sized ∙ ap (λ x. x && (same a.row b.row && same a.kept b.kept)) f
+
+    -- of one standing
+    pub by_rows : s ≡ true → same_walk a b ≡ same a.row b.row && same a.kept b.kept
+    by_rows f = sized ∙ ap (λ x. x && (same a.row b.row && same a.kept b.kept)) f
 
 swapped : (x y z : Bool) → (x && (y && z)) ≡ (y && (x && z))
 swapped true y z = refl

@@ -2,6 +2,7 @@
 #![tactic(auto)]
 
 ghost use Rattle.std.specs.Prelude.{◌≡◌};
+ghost use Rattle.words.specs.Order.{same};
 ghost use Rattle.walk_records.specs.SameWalks.{same_walk, standing_number, standing_place};
 
 use walk::{Standing, Walk};
@@ -32,9 +33,22 @@ pub fn standing_place(at: Standing) -> usize
     }
 }
 
-// Whether two walk records are the same, in every field and byte.
+// Whether two rows of records are the same: they differ at no place.
+fn same_row(row: &[u8], other: &[u8]) -> bool
+    ensures { result ≡ same row.now other.now }
+{
+    words::compare(row, other).place == 0
+}
+
+// Whether two walk records are the same, in every field and byte. Rows are compared by words.
 pub fn same_walk(walk: Walk, other: Walk) -> bool
     ensures { result ≡ same_walk walk other }
 {
-    walk == other
+    if walk.n != other.n || walk.d != other.d || walk.kind != other.kind {
+        return false;
+    }
+    if walk.at != other.at {
+        return false;
+    }
+    same_row(&walk.row, &other.row) && same_row(&walk.kept, &other.kept)
 }

@@ -67,5 +67,7 @@ pub fn compare(a: &[u8], b: &[u8]) -> Compared
 pub fn first_wrong(row: &[u8], k: u8) -> Option<usize>
     ensures { result ≡ place_found (first_wrong k row.now) }
 {
-    row.iter().position(|x| k <= *x).map(|i| i + 1)
+    // by `?`: with `map` a search over 32 symbols or more doesn't run on vectors
+    let i = row.iter().position(|x| k <= *x)?;
+    Some(i + 1)
 }

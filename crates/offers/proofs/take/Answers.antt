@@ -7,16 +7,16 @@ use Rattle.std.specs.Prelude.{Err}
 use denote.Enum.Bare.{same_true, true_same}
 use Rattle.refusal.specs.Verdicts.{most_stations}
 use Rattle.walk.specs.contracts.Answer.{the_type}
-use Rattle.walk_records.proofs.SameWalks.{same_derived, same_walk_lem}
+use Rattle.walk_records.proofs.SameWalks.{same_walk_lem}
 use Rattle.offers.proofs.TakeCases.{not_taken, not_that, spent_as, taken_as}
 use Rattle.offers.proofs.take.Goals as goal
-use Rattle.offers.proofs.take.Goals.{else-eq-via-else-eq, else-eq-via-then-eq+else-eq-2}
+use Rattle.offers.proofs.take.Goals.{else-eq-via-else-eq, else-eq-via-then-eq+else-same_walk}
 
-pub returns-then-eq-2 : goal.returns-then-eq-2
-returns-then-eq-2 c =
+pub returns-then-same_walk : goal.returns-then-same_walk
+returns-then-same_walk c =
     let long : length c.args.walk.row ≡ most_stations = search rules in
     let same = same_true the_type (search rules) _ _ (sym c.eq.ensures ∙ c.if-eq.true) in
-    let moved = (same_walk_lem _ _).0 (sym (same_derived _ _ c.eq-then-eq.ensures) ∙ c.if-eq-2.true) in
+    let moved = (same_walk_lem _ _).0 (sym c.same_walk.ensures ∙ c.if-same_walk.true) in
     let t = taken_as c.args.walk c.args.offer long _ c.step-stepped.ensures.answer _ c.in-Ok.is same moved in
     record { answer = t.0; numbers = t.1 }
 
@@ -24,7 +24,7 @@ pub returns-else-eq : goal.returns-else-eq
 returns-else-eq c =
     let long : length c.args.walk.row ≡ most_stations = search rules in
     let t = not_that c.args.walk c.args.offer long _ c.step-stepped.ensures.answer _ c.in-Ok.is (λ p q. elim c.else-eq.branch [
-      | else-eq-via-then-eq+else-eq-2 w ↦ true≢false (sym ((same_walk_lem _ _).1 q) ∙ sym (same_derived _ _ w.eq-then-eq.ensures) ∙ w.if-eq-2.false)
+      | else-eq-via-then-eq+else-same_walk w ↦ true≢false (sym ((same_walk_lem _ _).1 q) ∙ sym w.same_walk.ensures ∙ w.if-same_walk.false)
       | else-eq-via-else-eq w ↦ true≢false (sym (true_same the_type _ _ p) ∙ sym c.eq.ensures ∙ w.if-eq.false)
     ]) c.refusing.ensures in
     record { answer = t.0; numbers = t.1 }

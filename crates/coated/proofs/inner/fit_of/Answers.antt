@@ -44,6 +44,10 @@ searched row other back rest p o s m e b f =
       over = f ∙ ap (λ w. turn_found (rotates_to w other) (nearest_turn w other)) (reversed_part row rest back b);
     }
 
+pub returns-in-Some-Some : goal.returns-in-Some-Some
+returns-in-Some-Some c = fit_both (searched _ _ _ _ _ _ c.requires.0 c.requires.1 c.nearest_turn-plain.ensures c.write_reversed.ensures c.nearest_turn-over.ensures) _ _
+    c.in-Some-Some.is-0 c.in-Some-Some.is-1
+
 pub returns-in-None-None : goal.returns-in-None-None
 returns-in-None-None c = fit_different (searched _ _ _ _ _ _ c.requires.0 c.requires.1 c.nearest_turn-plain.ensures c.write_reversed.ensures c.nearest_turn-over.ensures)
     c.in-None-None.is-0 c.in-None-None.is-1
@@ -55,7 +59,3 @@ returns-in-None-Some c = fit_over (searched _ _ _ _ _ _ c.requires.0 c.requires.
 pub returns-in-Some-None : goal.returns-in-Some-None
 returns-in-Some-None c = fit_turning (searched _ _ _ _ _ _ c.requires.0 c.requires.1 c.nearest_turn-plain.ensures c.write_reversed.ensures c.nearest_turn-over.ensures) _
     c.in-Some-None.is-0 c.in-Some-None.is-1
-
-pub returns-in-Some-Some : goal.returns-in-Some-Some
-returns-in-Some-Some c = fit_both (searched _ _ _ _ _ _ c.requires.0 c.requires.1 c.nearest_turn-plain.ensures c.write_reversed.ensures c.nearest_turn-over.ensures) _ _
-    c.in-Some-Some.is-0 c.in-Some-Some.is-1

@@ -1,15 +1,25 @@
--- `density::count::count_ones` meets its contract: its symbols that are 1, counted.
-use mathlib.Core.Path.{sym, ◌∙◌, ◌≡◌}
+-- `density::count::count_ones` meets its contract: the ones so far are the density of what was passed.
+use mathlib.Core.Path.{ap, refl, ◌∙◌}
 use native.Mathlib.Omega.{arith}
+use lib.Seq.{take_all}
 use borrow.Author.Rules.{rules}
-use Rattle.std.proofs.lemmas.List.Sums.{count_by-le-length}
-use Rattle.std.specs.List.{count_by}
-use Rattle.std.specs.Prelude.{nat_eq}
-use Rattle.density.proofs.Counts.{density_counted}
+use Rattle.density.proofs.Counts.{density-take_one, density-take_other}
+use Rattle.density.specs.Density.{density}
 use Rattle.density.proofs.count.count_ones.Goals as goal
+use Rattle.density.proofs.count.count_ones.Goals.{else-row-i-eq1, then-row-i-eq1}
+
+pub loop-i-init : goal.loop-i-init
+unfolding density
+loop-i-init c = record { few = search rules; passed = refl }
+
+pub loop-i-preserved : goal.loop-i-preserved
+loop-i-preserved c =
+    let l = c.loop-i in
+    let w = c.args.row.now in
+    elim c.if-row-i-eq1.branch [ then-row-i-eq1 q ↦ record { few = omega arith; passed = omega (arith, density-take_one w l.i (omega arith) q.if-row-i-eq1.true) } | else-row-i-eq1 q ↦ record { few = omega arith; passed = omega (arith, density-take_other w l.i (omega arith) q.if-row-i-eq1.false) } ]
 
 pub returns : goal.returns
 returns c =
+    let l = c.loop-i in
     let w = c.args.row.now in
-    let n : c.count.result ≡ count_by (λ x. nat_eq x 1) w = search rules in
-    (n ∙ sym (density_counted w), omega (arith, n, count_by-le-length (λ x. nat_eq x 1) w))
+    (l.invariant.passed ∙ ap density (take_all l.i w (omega arith)), omega arith)
