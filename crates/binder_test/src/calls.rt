@@ -163,7 +163,8 @@ impl Held {
         let wrong = fetched.answer != compared::fetch_due(name, last.is_some());
         let call = Call {
             rows: test_walks::rows_of(fetched.walk),
-            differing: usize::from(wrong) + usize::from(fetched.walk != due.walk),
+            differing: usize::from(wrong)
+                + usize::from(!walk_records::same_walk(fetched.walk, due.walk)),
             ..Call::default()
         };
         Held {

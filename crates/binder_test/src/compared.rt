@@ -25,6 +25,15 @@ pub fn fetch_due(name: usize, put: bool) -> Result<(), Refusal> {
     Ok(())
 }
 
+// Whether the same stands under a name: the same walk, or nothing.
+fn is_same(walk: Option<Walk>, other: Option<Walk>) -> bool {
+    match (walk, other) {
+        (Some(x), Some(y)) => walk_records::same_walk(x, y),
+        (None, None) => true,
+        _ => false,
+    }
+}
+
 // How many names have another bookmark than is due, where a walk was put under a name, or nothing was.
 pub fn misfiled(before: Binder, after: Binder, put: Option<(usize, Walk)>) -> usize {
     let mut due = before.bookmarks;
@@ -35,6 +44,6 @@ pub fn misfiled(before: Binder, after: Binder, put: Option<(usize, Walk)>) -> us
     }
     due.iter()
         .zip(&after.bookmarks)
-        .filter(|(x, y)| x != y)
+        .filter(|(x, y)| !is_same(**x, **y))
         .count()
 }

@@ -9,8 +9,7 @@ use walk::{Answer, Stepped, Walk};
 
 // ---- the same
 
-// Field by field: plain search, which the library's `same_walk` is compared with too. So it isn't the derived equality
-// that that one uses.
+// Field by field, and rows byte by byte: plain search, which the library's `same_walk` is compared with too.
 pub fn same_walk(walk: Walk, other: Walk) -> bool {
     walk.row.iter().eq(&other.row)
         && walk.kept.iter().eq(&other.kept)

@@ -26,7 +26,7 @@ fn is_changed(said: Result<Answer, Refusal>, before: Walk, after: Walk, trials: 
     match said {
         Ok(_) => false,
         Err(Refusal::Spent) => false,
-        Err(_) => trials != 0 || after != before,
+        Err(_) => trials != 0 || !walk_records::same_walk(after, before),
     }
 }
 

@@ -143,6 +143,10 @@ module _ (a b : Walk) where
   pub other_sizes : (Sized → ⊥) → same_walk a b ≡ false
   other_sizes f = never (same_walk a b) (λ q. let e = (same_walk_lem a b).0 q in f (rw e (refl, refl, refl)))
 
+  -- of standings with other numbers
+  pub other_numbers : (standing_number a.at ≡ standing_number b.at → ⊥) → same_walk a b ≡ false
+  other_numbers f = never (same_walk a b) (λ q. f (ap (λ w. standing_number w.at) ((same_walk_lem a b).0 q)))
+
   module _ {s : Bool} (h : Sized) (e : s ≡ StandingEq.ghosts.eq a.at b.at) where
     sized : same_walk a b ≡ s && (same a.row b.row && same a.kept b.kept)
     unfolding same_walk

@@ -80,7 +80,7 @@ fn left_right(book: Book, said: Result<Answer, Refusal>, before: Walk, after: Wa
     match said {
         Ok(Answer::Ring) => after.row == line && after.at == Standing::Given,
         Ok(Answer::None) => after.row == line && after.at == Standing::Ended,
-        Err(Refusal::Ended) => after == before,
+        Err(Refusal::Ended) => walk_records::same_walk(after, before),
         Err(Refusal::Spent) => is_due(&after.row, after.at),
         Err(_) => false,
     }

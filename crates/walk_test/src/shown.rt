@@ -40,7 +40,7 @@ fn print_refused(r: Refusal, w: Walk) {
     };
     test_rows::print_refusal(r);
     io::write_all(1, b" ended walk of (1,0):");
-    test_walks::print_truth(w == none);
+    test_walks::print_truth(walk_records::same_walk(w, none));
 }
 
 // A line is stations, holes, kind, and the limit as digits.

@@ -24,6 +24,6 @@ returns-then-same_row c =
 
 pub returns-else-same_row : goal.returns-else-same_row
 returns-else-same_row c =
-    let rows = by_rows _ _ (c.if-walk-other.false, c.if-walk-other-2.false, c.if-walk-other-3.false) refl (not_false (sym c.ne.ensures ∙ c.if-ne.false)) in
+    let left = by_rows _ _ (c.if-walk-other.false, c.if-walk-other-2.false, c.if-walk-other-3.false) refl (not_false (sym c.ne.ensures ∙ c.if-ne.false)) in
     let row = sym c.same_row.ensures ∙ c.if-same_row.false in
-    c.if-same_row.false ∙ sym (rows ∙ rw row refl)
+    c.if-same_row.false ∙ sym (left ∙ rw row refl)
