@@ -67,7 +67,7 @@ pub fn compare(a: &[u8], b: &[u8]) -> Compared
 pub fn first_wrong(row: &[u8], k: u8) -> Option<usize>
     ensures { result ≡ place_found (first_wrong k row.now) }
 {
-    // by `?`: with `map` a search over 48 to 80 symbols doesn't run on vectors
+    // by `?`: with `map` a search over 48 to 95 symbols doesn't run on vectors
     let i = row.iter().position(|x| k <= *x)?;
     Some(i + 1)
 }
